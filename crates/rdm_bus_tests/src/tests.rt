@@ -59,7 +59,7 @@ const TOO_MANY: [u8; 232] = [0; 232];
 const WHOLE: [u8; 3] = [0xCC, 0x01, 0x18];
 
 /// What goes wrong, and what is heard then of a request and of a reply.
-const FAULTS: [(Fault, Option<&[u8]>, Option<&[u8]>); 7] = [
+const FAULTS: &[(Fault, Option<&[u8]>, Option<&[u8]>)] = &[
     (Fault::None, Some(&WHOLE), Some(&WHOLE)),
     (Fault::LostRequest, None, Some(&WHOLE)),
     (Fault::LostReply, Some(&WHOLE), None),
@@ -99,7 +99,7 @@ fn hears(rt: &impl Abort, fault: Fault, heard: Option<Wire>, expected: Option<&[
 fn faults_lose_or_alter_bytes(rt: HostRuntime) {
     let bytes = Wire::of(&WHOLE);
     for (fault, request, reply) in FAULTS {
-        hears(&rt, fault, fault.request_heard(&bytes), request);
-        hears(&rt, fault, fault.reply_heard(&bytes), reply);
+        hears(&rt, *fault, fault.request_heard(&bytes), *request);
+        hears(&rt, *fault, fault.reply_heard(&bytes), *reply);
     }
 }

@@ -1,12 +1,14 @@
 //! What no clause says: that the clauses say what the standard and the profile mean. The expected bytes are worked out
-//! by hand.
+//! by hand. Rows are text, which `plays` reads.
 
+use play::plays;
 use rdm_frame::Body;
 use rdm_outbox::*;
 use rdm_params::{Ask, Entry, Message, Severity, Verb, Work, Worker, Workers};
+use std::alloc::Global;
 use std::process::Abort;
-use std::test::Fail;
 
+mod play;
 mod words;
 
 /// SET LAMP_STATE, which is for worker 0.
@@ -25,25 +27,17 @@ const SELF_TEST: Work = Work {
     arg: 1,
 };
 
-fn made(rt: &HostRuntime, q: u16, jobs: u32) -> Result<Outbox, Fail> {
-    Ok(Outbox::new(rt.alloc(), q, jobs).ok().ok_or("a good size")?)
+/// An outbox of these settings.
+fn made(rt: &impl Abort, alloc: Global, settings: &Settings) -> Outbox {
+    Outbox::with_settings(alloc, settings)
+        .ok()
+        .expect(rt, "a good size")
 }
 
-/// Reserves a job, and says its number.
-fn number(outbox: &mut Outbox, work: Work) -> Option<u32> {
-    match outbox.reserve(work) {
-        Ok(job) => Some(job.number),
-        Err(Full::NoRoom) => None,
-    }
-}
-
-/// Ends the oldest job of a worker with the response to its SET.
-fn finish(rt: &impl Abort, outbox: &mut Outbox, worker: u8, pid: u16) {
-    assert!(rt;
-        outbox.oldest(worker).is_some(),
-        "worker {worker} has a job"
-    );
-    outbox.arrive(worker, set_response(pid));
+/// Plays rows on a new outbox with room for so many messages, and for so many jobs of a worker.
+fn plays_new(rt: &impl Abort, alloc: Global, (q, jobs): (u16, u32), rows: &str) {
+    let outbox = Outbox::new(alloc, q, jobs);
+    plays(rt, alloc, &mut outbox.ok().expect(rt, "a good size"), rows);
 }
 
 /// The response to a SET of this parameter at the root.
@@ -67,100 +61,138 @@ fn entry(severity: Severity, v2: u16) -> Entry {
     }
 }
 
-fn is(message: &Message, class: u8, pid: u16, data: &[u8]) -> bool {
-    message.class == class
-        && message.pid == pid
-        && message.sub == 0
-        && message.body.as_slice() == data
+/// How many messages and jobs there is room for, and whether there is such an outbox.
+const SIZES: &[(u16, u32, bool)] = &[(0, 1, false), (1025, 1, false), (1, 0, false), (1, 1, true)];
+
+/// The same, with a number of status entries behind them.
+const ENTRIES: &[(u16, u32, u16, bool)] = &[
+    (1, 1, 0, false),
+    (1, 1, 1025, false),
+    (1, 1, 0xFFFF, false),
+    (0, 1, 2, false),
+    (1, 0, 2, false),
+    (1, 1, 1, true),
+    (1, 1, 2, true),
+    (1, 1, 64, true),
+    (1, 1, 1023, true),
+    (1, 1, MOST_ENTRIES, true),
+];
+
+/// There is such an outbox, or its sizes are bad.
+fn is_made(rt: &impl Abort, alloc: Global, (q, jobs): (u16, u32), good: bool) {
+    let refusal = if good { None } else { Some(NewError::BadSize) };
+    assert_eq!(rt; Outbox::new(alloc, q, jobs).err(), refusal, "{q} {jobs}");
 }
 
-fn is_status(answer: &Dispensed, data: &[u8]) -> bool {
-    answer.fresh && is(&answer.message, 0x21, 0x0030, data)
+/// The same with a number of status entries.
+fn is_made_with(rt: &impl Abort, alloc: Global, row: (u16, u32, u16, bool)) {
+    let (q, jobs, entries, good) = row;
+    let settings = Settings {
+        entries,
+        ..Settings::usual(q, jobs)
+    };
+    let refusal = if good { None } else { Some(NewError::BadSize) };
+    let told = Outbox::with_settings(alloc, &settings).err();
+    assert_eq!(rt; told, refusal, "{q} {jobs} {entries}");
 }
+
+const NUMBERS: &str = "
+reserve lamp = 0
+finish 0 0403 =
+dispense advisory = fresh 31 0403
+reserve lamp = none
+reserve self-test = 0
+";
 
 #[test]
-fn sizes_and_numbers(rt: HostRuntime) -> Result<(), Fail> {
-    for (q, jobs) in [(0, 1), (1025, 1), (1, 0)] {
-        let refused = Outbox::new(rt.alloc(), q, jobs);
-        assert!(rt; matches!(&refused, Err(NewError::BadSize)), "{q} {jobs}");
+fn sizes_and_numbers(rt: HostRuntime) {
+    for (q, jobs, good) in SIZES {
+        is_made(&rt, rt.alloc(), (*q, *jobs), *good);
     }
     for q in 1..=MOST_WAITING {
-        assert!(rt; Outbox::new(rt.alloc(), q, 1).is_ok(), "{q}");
+        is_made(&rt, rt.alloc(), (q, 1), true);
     }
-    for (q, jobs, entries) in [
-        (1, 1, 0),
-        (1, 1, 1025),
-        (1, 1, 0xFFFF),
-        (0, 1, 2),
-        (1, 0, 2),
-    ] {
-        let settings = Settings {
-            entries,
-            ..Settings::usual(q, jobs)
-        };
-        let refused = Outbox::with_settings(rt.alloc(), &settings);
-        assert!(rt;
-            matches!(&refused, Err(NewError::BadSize)),
-            "{q} {jobs} {entries}"
-        );
+    for row in ENTRIES {
+        is_made_with(&rt, rt.alloc(), *row);
     }
-    for entries in [1, 2, 64, 1023, MOST_ENTRIES] {
-        let settings = Settings {
-            entries,
-            ..Settings::usual(1, 1)
-        };
-        assert!(rt;
-            Outbox::with_settings(rt.alloc(), &settings).is_ok(),
-            "{entries}"
-        );
-    }
-    let mut outbox = made(&rt, 2, 1)?;
-    assert_eq!(rt; number(&mut outbox, LAMP), Some(0));
-    finish(&rt, &mut outbox, 0, 0x0403);
-    let answer = outbox.dispense(Ask::Advisory);
-    assert!(rt; answer.fresh && is(&answer.message, 0x31, 0x0403, &[]));
-    assert_eq!(rt; number(&mut outbox, LAMP), None);
-    assert_eq!(rt; number(&mut outbox, SELF_TEST), Some(0));
-    Ok(())
+    plays_new(&rt, rt.alloc(), (2, 1), NUMBERS);
 }
 
+/// The number of the first job, and what an outbox with room for three jobs of a worker does: after the greatest number comes 0. Each
+/// worker is given as many as it may be, whatever their numbers.
+const FIRST_JOBS: &[(u32, &str)] = &[
+    (
+        0,
+        "reserve lamp = 0
+reserve self-test = 0
+reserve lamp = 1
+reserve self-test = 1
+reserve lamp = 2
+reserve self-test = 2
+reserve lamp = none
+oldest 1 = 0 1020
+finish 1 1020 =
+oldest 1 = 1 1020
+reserve self-test = none
+",
+    ),
+    (
+        1000,
+        "reserve lamp = 1000
+reserve self-test = 1000
+reserve lamp = 1001
+reserve self-test = 1001
+reserve lamp = 1002
+reserve self-test = 1002
+reserve lamp = none
+oldest 1 = 1000 1020
+finish 1 1020 =
+oldest 1 = 1001 1020
+reserve self-test = none
+",
+    ),
+    (
+        0xFFFF_FFFE,
+        "reserve lamp = 4294967294
+reserve self-test = 4294967294
+reserve lamp = 4294967295
+reserve self-test = 4294967295
+reserve lamp = 0
+reserve self-test = 0
+reserve lamp = none
+oldest 1 = 4294967294 1020
+finish 1 1020 =
+oldest 1 = 4294967295 1020
+reserve self-test = none
+",
+    ),
+    (
+        0xFFFF_FFFF,
+        "reserve lamp = 4294967295
+reserve self-test = 4294967295
+reserve lamp = 0
+reserve self-test = 0
+reserve lamp = 1
+reserve self-test = 1
+reserve lamp = none
+oldest 1 = 4294967295 1020
+finish 1 1020 =
+oldest 1 = 0 1020
+reserve self-test = none
+",
+    ),
+];
+
 #[test]
-fn numbers_begin_where_they_are_told_to(rt: HostRuntime) -> Result<(), Fail> {
-    // The first number, and those of three jobs: after the greatest comes 0.
-    for (first, numbers) in [
-        (0, [0, 1, 2]),
-        (1000, [1000, 1001, 1002]),
-        (0xFFFF_FFFE, [0xFFFF_FFFE, 0xFFFF_FFFF, 0]),
-        (0xFFFF_FFFF, [0xFFFF_FFFF, 0, 1]),
-    ] {
+fn numbers_begin_where_they_are_told_to(rt: HostRuntime) {
+    for (first, rows) in FIRST_JOBS {
         let settings = Settings {
             entries: 1,
-            first_job: first,
+            first_job: *first,
             ..Settings::usual(8, 3)
         };
-        let mut outbox = Outbox::with_settings(rt.alloc(), &settings)
-            .ok()
-            .ok_or("a good size")?;
-        for expected in numbers {
-            for work in [LAMP, SELF_TEST] {
-                assert_eq!(rt; number(&mut outbox, work), Some(expected), "{first}");
-            }
-        }
-        // Each worker was given as many as it may be, whatever their numbers.
-        assert_eq!(rt; number(&mut outbox, LAMP), None, "{first}");
-        assert!(rt;
-            matches!(outbox.oldest(1), Some(job) if job.number == first),
-            "{first}"
-        );
-        finish(&rt, &mut outbox, 1, 0x1020);
-        let next = numbers[1];
-        assert!(rt;
-            matches!(outbox.oldest(1), Some(job) if job.number == next),
-            "{first}"
-        );
-        assert_eq!(rt; number(&mut outbox, SELF_TEST), None, "{first}");
+        plays(&rt, rt.alloc(), &mut made(&rt, rt.alloc(), &settings), rows);
     }
-    Ok(())
 }
 
 /// A choice by which the lamp is worker 1's, and the self tests are worker 0's: the other way round than usual.
@@ -171,8 +203,18 @@ const TURNED: Workers = Workers {
     sensor: Worker::First,
 };
 
+const TURNED_JOBS: &str = "
+reserve lamp = 5
+oldest 0 = none
+oldest 1 = 5 0403
+reserve self-test = 5
+oldest 0 = 5 1020
+finish 1 0403 =
+oldest 1 = none
+";
+
 #[test]
-fn jobs_have_the_workers_of_the_choice(rt: HostRuntime) -> Result<(), Fail> {
+fn jobs_have_the_workers_of_the_choice(rt: HostRuntime) {
     let settings = Settings {
         q: 8,
         entries: 1,
@@ -180,243 +222,230 @@ fn jobs_have_the_workers_of_the_choice(rt: HostRuntime) -> Result<(), Fail> {
         first_job: 5,
         workers: TURNED,
     };
-    let mut outbox = Outbox::with_settings(rt.alloc(), &settings)
-        .ok()
-        .ok_or("a good size")?;
-    assert_eq!(rt; number(&mut outbox, LAMP), Some(5));
-    assert!(rt; outbox.oldest(0).is_none());
-    assert!(rt; matches!(outbox.oldest(1), Some(job) if job.work == LAMP));
-    assert_eq!(rt; number(&mut outbox, SELF_TEST), Some(5));
-    assert!(rt; matches!(outbox.oldest(0), Some(job) if job.work == SELF_TEST));
-    finish(&rt, &mut outbox, 1, 0x0403);
-    assert!(rt; outbox.oldest(1).is_none());
-    Ok(())
-}
-
-#[test]
-fn jobs_and_messages_share_the_room(rt: HostRuntime) -> Result<(), Fail> {
-    let mut outbox = made(&rt, 2, 9)?;
-    assert_eq!(rt; number(&mut outbox, LAMP), Some(0));
-    assert_eq!(rt; number(&mut outbox, LAMP), Some(1));
-    assert_eq!(rt; number(&mut outbox, SELF_TEST), None);
-    assert_eq!(rt; outbox.outstanding(), 2);
-    assert!(rt; matches!(outbox.oldest(0), Some(job) if job.number == 0 && job.work.pid == 0x0403));
-    assert!(rt; outbox.oldest(1).is_none() && outbox.oldest(2).is_none());
-    finish(&rt, &mut outbox, 0, 0x0403);
-    assert!(rt; matches!(outbox.oldest(0), Some(job) if job.number == 1));
-    assert_eq!(rt;
-        (outbox.outstanding(), outbox.waiting(), outbox.count()),
-        (1, 1, 1)
+    plays(
+        &rt,
+        rt.alloc(),
+        &mut made(&rt, rt.alloc(), &settings),
+        TURNED_JOBS,
     );
-    assert_eq!(rt; number(&mut outbox, SELF_TEST), None);
-    assert!(rt; outbox.answer(Ask::Error));
-    assert!(rt; is(outbox.last(), 0x31, 0x0403, &[]));
-    assert_eq!(rt; number(&mut outbox, SELF_TEST), Some(0));
-    Ok(())
+}
+
+/// `counts` are the jobs that are outstanding, the messages that wait, and how many of them a frame says.
+const SHARED: &str = "
+reserve lamp = 0
+reserve lamp = 1
+reserve self-test = none
+counts = 2 0 0
+oldest 0 = 0 0403
+oldest 1 = none
+oldest 2 = none
+finish 0 0403 =
+oldest 0 = 1 0403
+counts = 1 1 1
+reserve self-test = none
+answer error = fresh
+last = 31 0403
+reserve self-test = 0
+";
+
+#[test]
+fn jobs_and_messages_share_the_room(rt: HostRuntime) {
+    plays_new(&rt, rt.alloc(), (2, 9), SHARED);
+}
+
+/// Before there was a message, the last one is a status message without entries. Then two equal messages wait, and each is asked for again.
+const REPEATED: &str = "
+status last = again 21 0030
+reserve lamp = 0
+finish 0 0403 =
+reserve lamp = 1
+finish 0 0403 =
+dispense advisory = fresh 31 0403
+counts = 0 1 1
+dispense last = again 31 0403
+counts = 0 1 1
+dispense advisory = fresh 31 0403
+counts = 0 0 0
+dispense last = again 31 0403
+counts = 0 0 0
+dispense advisory = fresh 21 0030
+counts = 0 0 0
+dispense last = again 21 0030
+counts = 0 0 0
+";
+
+#[test]
+fn a_repeat_between_two_equal_messages(rt: HostRuntime) {
+    plays_new(&rt, rt.alloc(), (2, 2), REPEATED);
 }
 
 #[test]
-fn a_repeat_between_two_equal_messages(rt: HostRuntime) -> Result<(), Fail> {
-    let mut outbox = made(&rt, 2, 2)?;
-    let before = outbox.status(Ask::Last);
-    assert!(rt; !before.fresh && is(&before.message, 0x21, 0x0030, &[]));
-    for _ in [0, 1] {
-        assert!(rt; outbox.reserve(LAMP).is_ok());
-        finish(&rt, &mut outbox, 0, 0x0403);
-    }
-    // Whether the last message is asked for, and then the messages that still wait and whether the answer is a status
-    // message.
-    for (again, left, status) in [
-        (false, 1, false),
-        (true, 1, false),
-        (false, 0, false),
-        (true, 0, false),
-        (false, 0, true),
-        (true, 0, true),
-    ] {
-        let answer = if again {
-            outbox.dispense(Ask::Last)
-        } else {
-            outbox.dispense(Ask::Advisory)
-        };
-        let (class, pid) = if status {
-            (0x21, 0x0030)
-        } else {
-            (0x31, 0x0403)
-        };
-        assert!(rt; is(&answer.message, class, pid, &[]), "{again} {left}");
-        assert_eq!(rt; (answer.fresh, outbox.waiting()), (!again, left));
-    }
-    Ok(())
-}
-
-#[test]
-fn a_ring_of_three_turns_ten_times(rt: HostRuntime) -> Result<(), Fail> {
-    let mut outbox = made(&rt, 3, 60)?;
-    for _ in [0, 1] {
-        assert!(rt; outbox.reserve(LAMP).is_ok());
-    }
-    for turn in 0..30_u32 {
-        assert_eq!(rt; number(&mut outbox, LAMP), Some(turn + 2));
-        assert_eq!(rt; number(&mut outbox, LAMP), None);
-        assert_eq!(rt; oldest_in_ring(&outbox, 0), Some(turn));
-        finish(&rt, &mut outbox, 0, turn as u16);
-        let waits = outbox.waiting_ring().front();
-        assert!(rt; matches!(waits, Some(message) if message.pid == turn as u16));
-        assert!(rt;
-            is(
-                &outbox.dispense(Ask::Advisory).message,
-                0x31,
-                turn as u16,
-                &[]
-            )
-        );
+fn a_ring_of_three_turns_ten_times(rt: HostRuntime) {
+    let outbox = Outbox::new(rt.alloc(), 3, 60);
+    let mut outbox = outbox.ok().expect(&rt, "a good size");
+    plays(
+        &rt,
+        rt.alloc(),
+        &mut outbox,
+        "reserve lamp = 0\nreserve lamp = 1",
+    );
+    for turn in 0..30_u16 {
+        turns(&rt, rt.alloc(), &mut outbox, turn);
     }
     assert!(rt; outbox.waiting_ring().is_empty() && outbox.job_ring(2).is_none());
-    Ok(())
 }
 
-/// The number of the job at the front of a worker's ring.
-fn oldest_in_ring(outbox: &Outbox, worker: u8) -> Option<u32> {
-    Some(outbox.job_ring(worker)?.front()?.number)
-}
-
-#[test]
-fn each_status_type_shows_its_ranks(rt: HostRuntime) -> Result<(), Fail> {
-    let mut outbox = made(&rt, 1, 1)?;
-    for severity in [
-        Severity::ErrorCleared,
-        Severity::Advisory,
-        Severity::Warning,
-        Severity::Error,
-        Severity::WarningCleared,
-        Severity::AdvisoryCleared,
-    ] {
-        assert!(rt; outbox.note(entry(severity, 3)));
-    }
-    let errors = [
-        0, 1, 0x14, 0x80, 1, 0, 2, 0, 3, 0, 1, 0x04, 0x80, 1, 0, 2, 0, 3,
-    ];
-    let warnings = [
-        0, 1, 0x03, 0x80, 1, 0, 2, 0, 3, 0, 1, 0x13, 0x80, 1, 0, 2, 0, 3,
-    ];
-    let advisories = [
-        0, 1, 0x02, 0x80, 1, 0, 2, 0, 3, 0, 1, 0x12, 0x80, 1, 0, 2, 0, 3,
-    ];
-    assert!(rt; is_status(&outbox.status(Ask::None), &[]));
-    assert!(rt; is_status(&outbox.status(Ask::Error), &errors));
-    assert!(rt; is_status(&outbox.dispense(Ask::Warning), &warnings));
-    assert!(rt; !outbox.answer_status(Ask::Last));
-    assert!(rt; is(outbox.last(), 0x21, 0x0030, &warnings));
-    assert!(rt; is_status(&outbox.status(Ask::Advisory), &advisories));
-    assert!(rt; is_status(&outbox.status(Ask::Advisory), &[]));
-    Ok(())
-}
-
-#[test]
-fn a_message_has_25_entries(rt: HostRuntime) -> Result<(), Fail> {
-    for (count, rest) in [(25, None), (26, Some(25))] {
-        let mut outbox = made(&rt, 1, 1)?;
-        for v2 in 0..count {
-            assert!(rt; outbox.note(entry(Severity::Error, v2)));
-        }
-        let first = outbox.status(Ask::Error);
-        assert_eq!(rt; first.message.body.as_slice().len(), 225);
-        let behind = outbox.status(Ask::Error);
-        match rest {
-            None => assert!(rt; is_status(&behind, &[])),
-            Some(v2) => { assert!(rt; is_status(&behind, &[0, 1, 0x04, 0x80, 1, 0, 2, 0, v2])) }
-        }
-    }
-    Ok(())
-}
-
-#[test]
-fn at_most_1024_entries_are_kept(rt: HostRuntime) -> Result<(), Fail> {
-    let mut outbox = made(&rt, 1, 1)?;
-    for v2 in 0..1024 {
-        assert!(rt; outbox.note(entry(Severity::Advisory, v2)), "{v2}");
-    }
-    assert!(rt; !outbox.note(entry(Severity::Error, 1024)));
-    assert!(rt; is_status(&outbox.status(Ask::Error), &[]));
-    assert!(rt; outbox.answer_status(Ask::Advisory));
-    assert!(rt; outbox.note(entry(Severity::Error, 1025)));
-    assert!(rt;
-        is_status(
-            &outbox.status(Ask::Error),
-            &[0, 1, 0x04, 0x80, 1, 0, 2, 4, 1]
-        )
+/// A job is reserved, and the oldest one ends and its message is collected.
+fn turns(rt: &impl Abort, alloc: Global, outbox: &mut Outbox, turn: u16) {
+    let number = turn.saturating_add(2);
+    let rows = format!(in alloc;
+        "reserve lamp = {number}
+reserve lamp = none
+ring 0 = {turn}
+finish 0 {turn:04X} =
+front = {turn:04X}
+dispense advisory = fresh 31 {turn:04X}"
     );
-    Ok(())
+    plays(rt, alloc, outbox, &rows.expect(rt, "memory"));
 }
 
+/// An entry is of sub-device 1, has the ID 8001, and the values 2 and one that the row has.
+const RANKS: &str = "
+note error-cleared 3 = kept
+note advisory 3 = kept
+note warning 3 = kept
+note error 3 = kept
+note warning-cleared 3 = kept
+note advisory-cleared 3 = kept
+status none = fresh 21 0030
+status error = fresh 21 0030 0001 14 8001 0002 0003 0001 04 8001 0002 0003
+dispense warning = fresh 21 0030 0001 03 8001 0002 0003 0001 13 8001 0002 0003
+answer-status last = again
+last = 21 0030 0001 03 8001 0002 0003 0001 13 8001 0002 0003
+status advisory = fresh 21 0030 0001 02 8001 0002 0003 0001 12 8001 0002 0003
+status advisory = fresh 21 0030
+";
+
 #[test]
-fn a_list_of_2_entries_drops_the_third(rt: HostRuntime) -> Result<(), Fail> {
+fn each_status_type_shows_its_ranks(rt: HostRuntime) {
+    plays_new(&rt, rt.alloc(), (1, 1), RANKS);
+}
+
+const OF_25: &str = "
+notes 25 error = kept
+length error = 225
+status error = fresh 21 0030
+";
+
+const OF_26: &str = "
+notes 26 error = kept
+length error = 225
+status error = fresh 21 0030 0001 04 8001 0002 0019
+";
+
+#[test]
+fn a_message_has_25_entries(rt: HostRuntime) {
+    plays_new(&rt, rt.alloc(), (1, 1), OF_25);
+    plays_new(&rt, rt.alloc(), (1, 1), OF_26);
+}
+
+const MOST: &str = "
+notes 1024 advisory = kept
+note error 1024 = dropped
+status error = fresh 21 0030
+answer-status advisory = fresh
+note error 1025 = kept
+status error = fresh 21 0030 0001 04 8001 0002 0401
+";
+
+#[test]
+fn at_most_1024_entries_are_kept(rt: HostRuntime) {
+    plays_new(&rt, rt.alloc(), (1, 1), MOST);
+}
+
+/// Of three entries the first two are kept. Once one was shown, there is room for one.
+const OF_2: &str = "
+note error 7 = kept
+note advisory 8 = kept
+note error 9 = dropped
+status error = fresh 21 0030 0001 04 8001 0002 0007
+note warning 10 = kept
+note error 11 = dropped
+status advisory = fresh 21 0030 0001 02 8001 0002 0008 0001 03 8001 0002 000A
+note error 12 = kept
+";
+
+#[test]
+fn a_list_of_2_entries_drops_the_third(rt: HostRuntime) {
     let settings = Settings {
         entries: 2,
         ..Settings::usual(1, 1)
     };
-    let mut outbox = Outbox::with_settings(rt.alloc(), &settings)
-        .ok()
-        .ok_or("a good size")?;
-    assert!(rt; outbox.note(entry(Severity::Error, 7)));
-    assert!(rt; outbox.note(entry(Severity::Advisory, 8)));
-    assert!(rt; !outbox.note(entry(Severity::Error, 9)));
-    assert!(rt;
-        is_status(
-            &outbox.status(Ask::Error),
-            &[0, 1, 0x04, 0x80, 1, 0, 2, 0, 7]
-        )
-    );
-    // One was shown, so there is room for one.
-    assert!(rt; outbox.note(entry(Severity::Warning, 10)));
-    assert!(rt; !outbox.note(entry(Severity::Error, 11)));
-    assert!(rt;
-        is_status(
-            &outbox.status(Ask::Advisory),
-            &[
-                0, 1, 0x02, 0x80, 1, 0, 2, 0, 8, 0, 1, 0x03, 0x80, 1, 0, 2, 0, 10
-            ]
-        )
-    );
-    assert!(rt; outbox.note(entry(Severity::Error, 12)));
-    Ok(())
+    plays(&rt, rt.alloc(), &mut made(&rt, rt.alloc(), &settings), OF_2);
 }
 
+/// The outstanding job has the last place.
+const FULL: &str = "
+room = false
+reserve self-test = none
+finish 0 03FF =
+";
+
 #[test]
-fn a_queue_of_1024_is_filled_and_emptied(rt: HostRuntime) -> Result<(), Fail> {
-    let mut outbox = made(&rt, MOST_WAITING, 2)?;
-    assert_eq!(rt; number(&mut outbox, LAMP), Some(0));
+fn a_queue_of_1024_is_filled_and_emptied(rt: HostRuntime) {
+    let outbox = Outbox::new(rt.alloc(), MOST_WAITING, 2);
+    let mut outbox = outbox.ok().expect(&rt, "a good size");
+    plays(&rt, rt.alloc(), &mut outbox, "reserve lamp = 0");
     for number in 0..1023_u16 {
-        assert!(rt; outbox.room());
-        outbox.post(set_response(number));
-        assert_eq!(rt; u16::from(outbox.count()), (number + 1).min(255));
+        is_filled(&rt, rt.alloc(), &mut outbox, number);
     }
-    // The outstanding job has the last place.
-    assert!(rt; !outbox.room() && outbox.reserve(SELF_TEST).is_err());
-    finish(&rt, &mut outbox, 0, 1023);
+    plays(&rt, rt.alloc(), &mut outbox, FULL);
     for number in 0..1024_u16 {
-        assert!(rt; outbox.answer(Ask::Advisory));
-        assert!(rt; is(outbox.last(), 0x31, number, &[]), "{number}");
-        assert_eq!(rt; u16::from(outbox.count()), (1023 - number).min(255));
+        is_emptied(&rt, rt.alloc(), &mut outbox, number);
     }
-    assert!(rt; is_status(&outbox.dispense(Ask::Advisory), &[]));
-    Ok(())
+    plays(
+        &rt,
+        rt.alloc(),
+        &mut outbox,
+        "dispense advisory = fresh 21 0030",
+    );
 }
 
+/// There is room for a message, and one more waits.
+fn is_filled(rt: &impl Abort, alloc: Global, outbox: &mut Outbox, number: u16) {
+    let waiting = number.saturating_add(1);
+    let count = waiting.min(255);
+    let rows = format!(in alloc; "room = true\npost {number:04X} =\ncounts = 1 {waiting} {count}");
+    plays(rt, alloc, outbox, &rows.expect(rt, "memory"));
+}
+
+/// A message is collected, and one less waits.
+fn is_emptied(rt: &impl Abort, alloc: Global, outbox: &mut Outbox, number: u16) {
+    let waiting = 1023u16.saturating_sub(number);
+    let count = waiting.min(255);
+    let rows = format!(in alloc;
+        "answer advisory = fresh
+last = 31 {number:04X}
+counts = 0 {waiting} {count}"
+    );
+    plays(rt, alloc, outbox, &rows.expect(rt, "memory"));
+}
+
+const CLEARED: &str = "
+room = true
+post 0403 =
+notes 1024 error = kept
+note error 1024 = dropped
+clear =
+status advisory = fresh 21 0030
+notes 1024 error = kept
+note error 1024 = dropped
+clear =
+status advisory = fresh 21 0030
+counts = 0 1 1
+";
+
 #[test]
-fn cleared_entries_leave_room_for_1024_more(rt: HostRuntime) -> Result<(), Fail> {
-    let mut outbox = made(&rt, 1, 1)?;
-    assert!(rt; outbox.room());
-    outbox.post(set_response(0x0403));
-    for round in 0..2_u16 {
-        for v2 in 0..1024_u16 {
-            assert!(rt; outbox.note(entry(Severity::Error, v2)), "{round} {v2}");
-        }
-        assert!(rt; !outbox.note(entry(Severity::Error, 1024)));
-        outbox.clear_status();
-        assert!(rt; is_status(&outbox.status(Ask::Advisory), &[]));
-    }
-    assert_eq!(rt; outbox.waiting(), 1);
-    Ok(())
+fn cleared_entries_leave_room_for_1024_more(rt: HostRuntime) {
+    plays_new(&rt, rt.alloc(), (1, 1), CLEARED);
 }

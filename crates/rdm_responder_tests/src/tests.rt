@@ -92,6 +92,7 @@ fn runs_go_as_printed(rt: HostRuntime) {
     play_all(&rt, rt.alloc(), waiting::RUNS);
     play_all(&rt, rt.alloc(), clear::RUNS);
     play_all(&rt, rt.alloc(), panel::RUNS);
+    play_all(&rt, rt.alloc(), firmware::RUNS);
 }
 
 fn play_all(rt: &impl Abort, alloc: Global, runs: &[Run<'_>]) {

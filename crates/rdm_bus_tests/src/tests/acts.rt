@@ -1,35 +1,13 @@
-//! What is done with a system on which a test plays, and what must come of it.
+//! What is done with a system on which a test plays, and what must come of it. Rows are text.
 
-use super::{CONTROLLER, DEVICE, command, printed, words_for};
-use rdm_bus::{Action, Collector, Event, Fault, Heard, PlayError, Step, System, Want};
+use super::{CONTROLLER, DEVICE, TOO_MANY, bytes_of, command, printed, words_for};
+use rdm_bus::{Action, Collector, Command, Event, Fault, Heard, PlayError, Step, System, Want};
 use rdm_frame::Wire;
 use rdm_outbox::Job;
 use rdm_params::{Change, Message, Outcome, Plate, Profile};
 use rdm_responder::{Report, Responder};
 use std::alloc::Global;
 use std::process::Abort;
-
-pub(super) const LAMP_STATE: u16 = 0x0403;
-
-/// What is done with a system.
-#[derive(Clone, Copy, Debug)]
-pub(super) enum Act {
-    /// A GET without data to the root of the device.
-    Get(u16),
-    /// A SET to the root of the device.
-    Set(u16, &'static [u8]),
-    Collect,
-    /// The job that started at this place of the run's jobs is done.
-    Ends(usize),
-    /// A report of that job, but with the next number.
-    IsAstray(usize),
-    /// A person sets the start address at the device's own menu.
-    Start(u16),
-    /// A person sets the personality there.
-    Personality(u8),
-    /// A person sets the label there.
-    Label(&'static [u8]),
-}
 
 /// A new system of a device without sub-devices, with room for `queue_size` results of slow commands.
 pub(super) fn system(rt: &impl Abort, alloc: Global, queue_size: u16) -> System {
@@ -68,35 +46,95 @@ fn next(job: Job) -> Job {
     }
 }
 
-/// The step that an act is.
-fn step_of(rt: &impl Abort, system: &System, act: Act, fault: Fault) -> Step {
-    match act {
-        Act::Get(pid) => Step::Ask(command(rt, Action::Get, pid, &[]), fault),
-        Act::Set(pid, bytes) => Step::Ask(command(rt, Action::Set, pid, bytes), fault),
-        Act::Collect => Step::Collect(fault),
-        Act::Ends(at) => Step::Arrive(done(job_at(rt, system, at))),
-        Act::IsAstray(at) => Step::Arrive(done(next(job_at(rt, system, at)))),
-        Act::Start(start) => Step::Change(Change::Start(start)),
-        Act::Personality(number) => Step::Change(Change::Personality(number)),
-        Act::Label(text) => {
-            let plate = Plate::new(text).expect(rt, "at most 32 bytes");
-            Step::Change(Change::Label(plate))
-        }
+/// The step that words say: `get PID` and `set PID DATA` are commands to the root of the device, and `collect` is a poll; behind a comma
+/// stands what goes wrong on the bus. `ends NUMBER` reports that the job that started at this place of the run's jobs is done, and `astray
+/// NUMBER` the same with the next number. `start`, `personality` and `label` are changes at the device's own menu.
+fn step_in(rt: &impl Abort, alloc: Global, system: &System, words: &str) -> Step {
+    let (said, wrong) = words.split_once(", ").unwrap_or((words, ""));
+    let (verb, rest) = cut(said);
+    match verb {
+        "get" => Step::Ask(
+            command_in(rt, alloc, Action::Get, rest),
+            fault_in(rt, wrong),
+        ),
+        "set" => Step::Ask(
+            command_in(rt, alloc, Action::Set, rest),
+            fault_in(rt, wrong),
+        ),
+        "collect" => Step::Collect(fault_in(rt, wrong)),
+        "ends" => Step::Arrive(done(job_at(rt, system, place(rt, rest)))),
+        "astray" => Step::Arrive(done(next(job_at(rt, system, place(rt, rest))))),
+        _ => Step::Change(change_in(rt, alloc, verb, rest).expect(rt, words)),
     }
 }
 
-/// Plays an act, which may be refused.
+/// The command of this parameter ID, with these data, or with `too many`.
+fn command_in(rt: &impl Abort, alloc: Global, action: Action, words: &str) -> Command {
+    let (pid, data) = cut(words);
+    let pid = u16::from_str_radix(pid, 16).ok().expect(rt, words);
+    if data == "too many" {
+        command(rt, action, pid, &TOO_MANY)
+    } else {
+        command(rt, action, pid, &bytes_of(rt, alloc, data))
+    }
+}
+
+/// What words say that goes wrong. The numbers behind it are a slot, and how far it is raised.
+fn fault_in(rt: &impl Abort, words: &str) -> Fault {
+    match words {
+        "" => Fault::None,
+        "lost request" => Fault::LostRequest,
+        "lost reply" => Fault::LostReply,
+        _ => altered_in(words).expect(rt, words),
+    }
+}
+
+fn altered_in(words: &str) -> Option<Fault> {
+    if let Some(numbers) = words.strip_prefix("bad request ") {
+        let (slot, raise) = numbers.split_once(' ')?;
+        return Some(Fault::BadRequest(slot.parse::<u16>().ok()?, raise.parse::<u8>().ok()?));
+    }
+    let (slot, raise) = words.strip_prefix("bad reply ")?.split_once(' ')?;
+    Some(Fault::BadReply(slot.parse::<u16>().ok()?, raise.parse::<u8>().ok()?))
+}
+
+/// The change that words say.
+fn change_in(rt: &impl Abort, alloc: Global, verb: &str, value: &str) -> Option<Change> {
+    match verb {
+        "start" => Some(Change::Start(value.parse::<u16>().ok()?)),
+        "personality" => Some(Change::Personality(value.parse::<u8>().ok()?)),
+        "label" => Some(Change::Label(Plate::new(&bytes_of(rt, alloc, value))?)),
+        _ => None,
+    }
+}
+
+/// A place in a list.
+fn place(rt: &impl Abort, digits: &str) -> usize {
+    digits.parse::<usize>().ok().expect(rt, digits)
+}
+
+/// The first word of a text, and what follows it.
+fn cut(text: &str) -> (&str, &str) {
+    text.split_once(' ').unwrap_or((text, ""))
+}
+
+/// Plays the step that words say, which may be refused.
 pub(super) fn play(
     rt: &impl Abort,
+    alloc: Global,
     system: &mut System,
-    act: Act,
-    fault: Fault,
+    words: &str,
 ) -> Result<(), PlayError> {
-    let step = step_of(rt, system, act, fault);
+    let step = step_in(rt, alloc, system, words);
     if let Some(0) = step.fault().raise() {
         panic!(rt; "a slot that isn't raised")
     }
     system.play(&step)
+}
+
+/// Plays the step that words say, and nothing refuses it.
+pub(super) fn does(rt: &impl Abort, alloc: Global, system: &mut System, words: &str) {
+    assert_eq!(rt; play(rt, alloc, system, words), Ok(()), "{words}");
 }
 
 /// The bytes from the slot of the transaction number on.
@@ -151,10 +189,10 @@ fn happened(rt: &impl Abort, alloc: Global, event: &Event) -> String {
     }
 }
 
-/// Plays an act, and tells what happened, or why nothing did.
-fn told(rt: &impl Abort, alloc: Global, system: &mut System, act: Act, fault: Fault) -> String {
+/// Plays a step, and tells what happened, or why nothing did.
+fn told(rt: &impl Abort, alloc: Global, system: &mut System, words: &str) -> String {
     let before = system.trace().len();
-    let played = play(rt, system, act, fault);
+    let played = play(rt, alloc, system, words);
     match (system.trace().get(before), played) {
         (Some(event), _) => happened(rt, alloc, event),
         (None, Err(refusal)) => words_for(rt, alloc, &refusal),
@@ -162,20 +200,24 @@ fn told(rt: &impl Abort, alloc: Global, system: &mut System, act: Act, fault: Fa
     }
 }
 
-/// An act, what goes wrong, and what happens, or why nothing does.
-pub(super) type Turn = (Act, Fault, &'static str);
+/// The room for results; rows, each with a step and what happens, or why nothing does; and how many messages are recorded.
+pub(super) type Run = (u16, &'static str, usize);
 
-/// The room for results, what is done, and how many messages are recorded.
-pub(super) type Run = (u16, &'static [Turn], usize);
-
-/// Plays the turns of a run on a new system, each beside what must come of it.
-pub(super) fn plays(rt: &impl Abort, alloc: Global, (queue_size, turns, recorded): Run) {
+/// Plays the rows of a run on a new system.
+pub(super) fn plays(rt: &impl Abort, alloc: Global, (queue_size, rows, recorded): Run) {
     let mut system = system(rt, alloc, queue_size);
-    for (act, fault, expected) in turns {
-        let told = told(rt, alloc, &mut system, *act, *fault);
-        assert_eq!(rt; told.as_str(), *expected, "{act:?}");
+    for row in rows.lines() {
+        if !row.is_empty() {
+            plays_row(rt, alloc, &mut system, row);
+        }
     }
-    assert_eq!(rt; system.recorded().len(), recorded, "{turns:?}");
+    assert_eq!(rt; system.recorded().len(), recorded, "{rows}");
+}
+
+fn plays_row(rt: &impl Abort, alloc: Global, system: &mut System, row: &str) {
+    let (words, expected) = row.split_once(" = ").expect(rt, row);
+    let told = told(rt, alloc, system, words);
+    assert_eq!(rt; told.trim_end(), expected, "{words}");
 }
 
 /// What a message says: its class, parameter ID, sub-device and data.
@@ -184,10 +226,3 @@ pub(super) fn text_of(rt: &impl Abort, alloc: Global, message: &Message) -> Stri
     let (class, pid, sub) = (message.class, message.pid, message.sub);
     format!(in alloc; "{class:02X} {pid:04X} {sub:04X} {body}").expect(rt, "memory")
 }
-
-/// A SET of LAMP_STATE to on, in the first transaction.
-pub(super) const LAMP_ON: Turn = (
-    Act::Set(LAMP_STATE, &[1]),
-    Fault::None,
-    "000100000030040301010401 00010000003104030200320435 reply",
-);

@@ -1,42 +1,47 @@
 //! Replies of which one slot was altered on the way.
 
-use super::acts::{Act, play, system, text_of};
-use rdm_bus::{Event, Fault, Heard, System};
+use super::acts::{does, system, text_of};
+use rdm_bus::{Event, Heard, System};
 use std::alloc::Global;
 use std::process::Abort;
 
 /// How many slots the reply to a poll has where nothing waits.
 const SLOTS: usize = 26;
 
-/// Polls, with this fault of the bus: how many slots the reply had before it, and what it was taken for.
-fn polled(rt: &impl Abort, system: &mut System, fault: Fault) -> (usize, Heard) {
-    assert_eq!(rt; play(rt, system, Act::Collect, fault), Ok(()));
-    let Some(
+/// How many slots the last reply had before it was altered, and what it was taken for.
+fn last_heard(system: &System) -> Option<(usize, Heard)> {
+    match system.trace().last()? {
         Event::Bus {
             reply: Some(reply),
             heard: Some(heard),
             ..
-        },
-    ) = system.trace().last()
-    else {
-        panic!(rt; "a reply that is heard")
-    };
-    (reply.as_slice().len(), *heard)
+        } => Some((reply.as_slice().len(), *heard)),
+        _ => None,
+    }
+}
+
+/// Polls, as words say, and takes the reply for this.
+fn hears(rt: &impl Abort, alloc: Global, system: &mut System, words: &str, heard: Heard) {
+    does(rt, alloc, system, words);
+    assert_eq!(rt; last_heard(system), Some((SLOTS, heard)), "{words}");
+}
+
+/// A reply of which this slot is raised is ignored.
+fn is_ignored(rt: &impl Abort, alloc: Global, system: &mut System, slot: u16) {
+    for raise in &[1u8, 128, 255] {
+        let words = format!(in alloc; "collect, bad reply {slot} {raise}").expect(rt, "memory");
+        hears(rt, alloc, system, &words, Heard::Ignored);
+    }
 }
 
 #[test]
 fn a_reply_with_an_altered_slot_is_ignored(rt: HostRuntime) {
     let mut system = system(&rt, rt.alloc(), 8);
     for slot in 0..SLOTS as u16 {
-        for raise in [1, 128, 255] {
-            let fault = Fault::BadReply(slot, raise);
-            let heard = polled(&rt, &mut system, fault);
-            assert_eq!(rt; heard, (SLOTS, Heard::Ignored), "{fault:?}");
-        }
+        is_ignored(&rt, rt.alloc(), &mut system, slot);
     }
     assert!(rt; system.recorded().is_empty());
-    let heard = polled(&rt, &mut system, Fault::None);
-    assert_eq!(rt; heard, (SLOTS, Heard::Message));
+    hears(&rt, rt.alloc(), &mut system, "collect", Heard::Message);
     only_message(&rt, rt.alloc(), &system, "21 0030 0000 ");
 }
 

@@ -1,139 +1,74 @@
 //! Whole runs of a bus, worked out by hand.
 
-use super::acts::{Act, LAMP_ON, LAMP_STATE, Run, Turn, play, plays, system, text_of};
-use super::{TOO_MANY, panel};
-use rdm_bus::{Event, Fault, Heard, System};
+use super::acts::{Run, does, plays, system, text_of};
+use super::panel;
+use rdm_bus::{Event, Heard, System};
 use rdm_frame::{Wire, decode};
 use rdm_params::Message;
 use std::alloc::Global;
 use std::process::Abort;
 
-const STATUS_MESSAGES: u16 = 0x0030;
-
-const IDENTIFY_DEVICE: u16 = 0x1000;
-
-const PERFORM_SELFTEST: u16 = 0x1020;
-
 /// A request is refused, or altered on the way.
-const REFUSED_OR_ALTERED: [Turn; 4] = [
-    (Act::Get(STATUS_MESSAGES), Fault::None, "reserved"),
-    (
-        Act::Set(STATUS_MESSAGES, &TOO_MANY),
-        Fault::None,
-        "reserved",
-    ),
-    (
-        Act::Set(IDENTIFY_DEVICE, &TOO_MANY),
-        Fault::None,
-        "too long",
-    ),
-    (
-        Act::Get(IDENTIFY_DEVICE),
-        Fault::BadRequest(2, 1),
-        "00010000002010000003F7 - nothing",
-    ),
-];
+const REFUSED_OR_ALTERED: &str = "
+get 0030 = reserved
+set 0030 too many = reserved
+set 1000 too many = too long
+get 1000, bad request 2 1 = 00010000002010000003F7 - nothing
+";
 
 /// What is lost is asked for again.
-const REPLY_LOST: [Turn; 6] = [
-    LAMP_ON,
-    (Act::IsAstray(0), Fault::None, "astray"),
-    (Act::Ends(0), Fault::None, "arrived"),
-    (Act::Ends(0), Fault::None, "astray"),
-    (
-        Act::Collect,
-        Fault::LostReply,
-        "01010000002000200102040C 01000000003104030003FF nothing",
-    ),
-    (
-        Act::Collect,
-        Fault::None,
-        "02010000002000200101040C 0200000000310403000400 message",
-    ),
-];
+const REPLY_LOST: &str = "
+set 0403 01 = 000100000030040301010401 00010000003104030200320435 reply
+astray 0 = astray
+ends 0 = arrived
+ends 0 = astray
+collect, lost reply = 01010000002000200102040C 01000000003104030003FF nothing
+collect = 02010000002000200101040C 0200000000310403000400 message
+";
 
-const REQUEST_LOST_AND_REPLY_ALTERED: [Turn; 3] = [
-    (
-        Act::Collect,
-        Fault::LostRequest,
-        "00010000002000200102040B - nothing",
-    ),
-    (
-        Act::Collect,
-        Fault::BadReply(2, 1),
-        "01010000002000200101040B 0100000000210030000418 ignored",
-    ),
-    (
-        Act::Collect,
-        Fault::None,
-        "02010000002000200101040C 0200000000210030000419 message",
-    ),
-];
+const REQUEST_LOST_AND_REPLY_ALTERED: &str = "
+collect, lost request = 00010000002000200102040B - nothing
+collect, bad reply 2 1 = 01010000002000200101040B 0100000000210030000418 ignored
+collect = 02010000002000200101040C 0200000000210030000419 message
+";
 
 /// Equal results are given one by one.
-const EQUAL_RESULTS: [Turn; 6] = [
-    LAMP_ON,
-    (
-        Act::Set(LAMP_STATE, &[1]),
-        Fault::None,
-        "010100000030040301010402 01010000003104030200320436 reply",
-    ),
-    (Act::Ends(0), Fault::None, "arrived"),
-    (Act::Ends(1), Fault::None, "arrived"),
-    (
-        Act::Collect,
-        Fault::None,
-        "02010000002000200102040D 0200010000310403000401 message",
-    ),
-    (
-        Act::Collect,
-        Fault::None,
-        "03010000002000200102040E 0300000000310403000401 message",
-    ),
-];
+const EQUAL_RESULTS: &str = "
+set 0403 01 = 000100000030040301010401 00010000003104030200320435 reply
+set 0403 01 = 010100000030040301010402 01010000003104030200320436 reply
+ends 0 = arrived
+ends 1 = arrived
+collect = 02010000002000200102040D 0200010000310403000401 message
+collect = 03010000002000200102040E 0300000000310403000401 message
+";
 
 /// A slow command waits for room.
-const NO_ROOM: [Turn; 6] = [
-    LAMP_ON,
-    (
-        Act::Set(LAMP_STATE, &[0]),
-        Fault::None,
-        "010100000030040301000401 0102000000310403020007040C reply",
-    ),
-    (Act::Ends(0), Fault::None, "arrived"),
-    (
-        Act::Set(LAMP_STATE, &[0]),
-        Fault::None,
-        "020100000030040301000402 0202010000310403020007040E reply",
-    ),
-    (
-        Act::Collect,
-        Fault::None,
-        "03010000002000200102040E 0300000000310403000401 message",
-    ),
-    (
-        Act::Set(LAMP_STATE, &[0]),
-        Fault::None,
-        "040100000030040301000404 04010000003104030200320439 reply",
-    ),
-];
+const NO_ROOM: &str = "
+set 0403 01 = 000100000030040301010401 00010000003104030200320435 reply
+set 0403 00 = 010100000030040301000401 0102000000310403020007040C reply
+ends 0 = arrived
+set 0403 00 = 020100000030040301000402 0202010000310403020007040E reply
+collect = 03010000002000200102040E 0300000000310403000401 message
+set 0403 00 = 040100000030040301000404 04010000003104030200320439 reply
+";
 
-const RUNS: [Run; 5] = [
-    (8, &REFUSED_OR_ALTERED, 0),
-    (8, &REPLY_LOST, 1),
-    (8, &REQUEST_LOST_AND_REPLY_ALTERED, 1),
-    (8, &EQUAL_RESULTS, 2),
-    (1, &NO_ROOM, 1),
+const RUNS: &[Run] = &[
+    (8, REFUSED_OR_ALTERED, 0),
+    (8, REPLY_LOST, 1),
+    (8, REQUEST_LOST_AND_REPLY_ALTERED, 1),
+    (8, EQUAL_RESULTS, 2),
+    (1, NO_ROOM, 1),
 ];
-
-const ALL_RUNS: [&[Run]; 2] = [&RUNS, &panel::RUNS];
 
 #[test]
 fn runs_go_as_printed(rt: HostRuntime) {
-    for runs in ALL_RUNS {
-        for run in runs {
-            plays(&rt, rt.alloc(), *run);
-        }
+    play_all(&rt, rt.alloc(), RUNS);
+    play_all(&rt, rt.alloc(), panel::RUNS);
+}
+
+fn play_all(rt: &impl Abort, alloc: Global, runs: &[Run]) {
+    for run in runs {
+        plays(rt, alloc, *run);
     }
 }
 
@@ -193,52 +128,54 @@ fn recorded(rt: &impl Abort, alloc: Global, system: &System) -> Vec<String> {
 fn compare(rt: &impl Abort, alloc: Global, system: &System) {
     let (dispensed, answered) = dispensed(rt, alloc, system);
     let recorded = recorded(rt, alloc, system);
-    for (one, other) in recorded.iter().zip(&dispensed) {
-        assert_eq!(rt; one.as_str(), other.as_str());
-    }
-    let most_missing = usize::from(!answered);
-    assert!(rt; recorded.len() <= dispensed.len());
-    assert!(rt; dispensed.len().saturating_sub(recorded.len()) <= most_missing);
+    assert!(rt;
+        is_front(&recorded, &dispensed, usize::from(!answered)),
+        "{dispensed:?}"
+    );
 }
 
-/// What goes wrong with a poll.
-const FAULTS: [Fault; 5] = [
-    Fault::None,
-    Fault::LostRequest,
-    Fault::LostReply,
-    Fault::BadRequest(3, 1),
-    Fault::BadReply(3, 1),
+/// Whether a list is the front of another one, of which at most so many items are missing.
+fn is_front(front: &[String], all: &[String], most_missing: usize) -> bool {
+    let are_equal = front.iter().zip(all).all(|(one, other)| *one == *other);
+    are_equal && front.len() <= all.len() && all.len().saturating_sub(front.len()) <= most_missing
+}
+
+/// Polls, with each thing that can go wrong with one.
+const POLLS: [&str; 5] = [
+    "collect",
+    "collect, lost request",
+    "collect, lost reply",
+    "collect, bad request 3 1",
+    "collect, bad reply 3 1",
 ];
 
 /// Two results wait.
-const RESULTS: [Act; 4] = [
-    Act::Set(LAMP_STATE, &[1]),
-    Act::Set(PERFORM_SELFTEST, &[1]),
-    Act::Ends(0),
-    Act::Ends(1),
-];
+const RESULTS: &[&str] = &["set 0403 01", "set 1020 01", "ends 0", "ends 1"];
 
 /// A new system, with two results that wait.
 fn with_results(rt: &impl Abort, alloc: Global) -> System {
     let mut system = system(rt, alloc, 8);
-    for act in RESULTS {
-        assert_eq!(rt; play(rt, &mut system, act, Fault::None), Ok(()));
+    for words in RESULTS {
+        does(rt, alloc, &mut system, words);
     }
     assert_eq!(rt; system.responder().waiting(), 2);
     system
 }
 
+/// Polls four times: with what goes wrong is counted by the digits to base 5.
+fn polls(rt: &impl Abort, alloc: Global, system: &mut System, list: usize) {
+    let mut rest = list;
+    for _ in 0..4 {
+        does(rt, alloc, system, POLLS[rest % 5]);
+        rest /= 5;
+        compare(rt, alloc, system);
+    }
+    assert_eq!(rt; system.trace().len(), 8);
+}
+
 #[test]
 fn the_record_is_what_was_dispensed(rt: HostRuntime) {
     for list in 0..625usize {
-        let mut system = with_results(&rt, rt.alloc());
-        let mut rest = list;
-        for _ in 0..4 {
-            let fault = FAULTS[rest % 5];
-            assert_eq!(rt; play(&rt, &mut system, Act::Collect, fault), Ok(()));
-            rest /= 5;
-            compare(&rt, rt.alloc(), &system);
-        }
-        assert_eq!(rt; system.trace().len(), 8);
+        polls(&rt, rt.alloc(), &mut with_results(&rt, rt.alloc()), list);
     }
 }

@@ -7,7 +7,7 @@ use std::fmt::Display;
 use std::process::Abort;
 
 /// Why a step isn't played, and the words for it.
-const PLAY_ERRORS: [(PlayError, &str); 5] = [
+const PLAY_ERRORS: &[(PlayError, &str)] = &[
     (PlayError::OutOfMemory, "out of memory"),
     (PlayError::Reserved, "reserved"),
     (PlayError::TooLong, "too long"),
@@ -23,6 +23,6 @@ fn prints(rt: &impl Abort, alloc: Global, error: &impl Display, words: &str) {
 #[test]
 fn errors_say_what_is_wrong(rt: HostRuntime) {
     for (error, words) in PLAY_ERRORS {
-        prints(&rt, rt.alloc(), &error, words);
+        prints(&rt, rt.alloc(), error, words);
     }
 }

@@ -6,6 +6,7 @@ use rdm_collector::{
     join_data,
 };
 use std::alloc::Global;
+use std::process::Abort;
 use std::test::Fail;
 
 /// A request, and the reply that comes back on the port, if one does.
@@ -94,9 +95,13 @@ fn a_console_collects_over_its_own_port(rt: HostRuntime) -> Result<(), Fail> {
         traffic: &TRAFFIC,
         sent: 0,
     };
-    let set_lamp_on = command(&rt, Action::Set, 0x0403, &[1]);
-
     let mut console = Collector::new(rt.alloc(), CONSOLE, FIXTURE, Want::Advisory);
+    collects(&rt, &mut port, &mut console)
+}
+
+/// A console sends a command, and collects what comes of it.
+fn collects(rt: &impl Abort, port: &mut Port<'_>, console: &mut Collector) -> Result<(), Fail> {
+    let set_lamp_on = command(rt, Action::Set, 0x0403, &[1]);
     // A command of the user. The reply is ACK_TIMER: the result will wait in the fixture's queue.
     let request = console.ask(&set_lamp_on)?;
     port.send(request.as_slice())?;
@@ -129,7 +134,27 @@ fn a_console_collects_from_any_device(rt: HostRuntime) -> Result<(), Fail> {
         traffic: &OTHER_TRAFFIC,
         sent: 0,
     };
+    let mut data = Vec::new(rt.alloc());
     let mut console = DeviceCollector::new(rt.alloc(), CONSOLE, FIXTURE, Want::Advisory);
+    collects_all(&rt, &mut port, &mut console, &mut data)
+}
+
+/// A console polls, and then looks at what it collected.
+fn collects_all(
+    rt: &impl Abort,
+    port: &mut Port<'_>,
+    console: &mut DeviceCollector,
+    data: &mut Vec<u8>,
+) -> Result<(), Fail> {
+    polls(rt, port, console)?;
+    for (response, bytes) in COLLECTED {
+        shows(rt, console, data, response, bytes)?;
+    }
+    assert!(rt; console.recorded().is_empty());
+    Ok(())
+}
+
+fn polls(rt: &impl Abort, port: &mut Port<'_>, console: &mut DeviceCollector) -> Result<(), Fail> {
     // Four polls. The first is answered by a NACK that waited in the queue, the second by a part of a message, the third is lost.
     for _ in 0..4 {
         let request = console.poll()?;
@@ -140,17 +165,23 @@ fn a_console_collects_from_any_device(rt: HostRuntime) -> Result<(), Fail> {
         }
         console.over();
     }
+    Ok(())
+}
+
+fn shows(
+    rt: &impl Abort,
+    console: &mut DeviceCollector,
+    data: &mut Vec<u8>,
+    response: Response,
+    bytes: &[u8],
+) -> Result<(), Fail> {
     // What was collected, a message at a time: its response type, and the data of all its parts.
-    let mut data = Vec::new(rt.alloc());
-    for (response, bytes) in COLLECTED {
-        let items = first_message(console.recorded()).ok_or("no message")?;
-        join_data(items, &mut data)?;
-        let last = items.last().ok_or("no message")?;
-        assert_eq!(rt; last.response, response);
-        assert_eq!(rt; data.as_slice(), bytes);
-        let count = items.len();
-        console.forget(count);
-    }
-    assert!(rt; console.recorded().is_empty());
+    let items = first_message(console.recorded()).ok_or("no message")?;
+    join_data(items, data)?;
+    let last = items.last().ok_or("no message")?;
+    assert_eq!(rt; last.response, response);
+    assert_eq!(rt; data.as_slice(), bytes);
+    let count = items.len();
+    console.forget(count);
     Ok(())
 }

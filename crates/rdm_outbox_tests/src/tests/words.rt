@@ -3,24 +3,18 @@
 use super::*;
 
 /// Why there is no outbox, and the words for it.
-const NEW_ERRORS: [(NewError, &str); 2] = [
+const NEW_ERRORS: &[(NewError, &str)] = &[
     (NewError::OutOfMemory, "out of memory"),
     (NewError::BadSize, "bad outbox size"),
 ];
 
 #[test]
-fn errors_say_what_is_wrong(rt: HostRuntime) -> Result<(), Fail> {
+fn errors_say_what_is_wrong(rt: HostRuntime) {
     for (error, words) in NEW_ERRORS {
-        assert_eq!(rt;
-            format!(in rt.alloc(); "{error}")?.as_str(),
-            words,
-            "{error:?}"
-        );
+        let said = format!(in rt.alloc(); "{error}").expect(&rt, "memory");
+        assert_eq!(rt; said.as_str(), *words);
     }
     let full = Full::NoRoom;
-    assert_eq!(rt;
-        format!(in rt.alloc(); "{full}")?.as_str(),
-        "no room for a job"
-    );
-    Ok(())
+    let said = format!(in rt.alloc(); "{full}").expect(&rt, "memory");
+    assert_eq!(rt; said.as_str(), "no room for a job");
 }

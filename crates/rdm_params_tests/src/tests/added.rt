@@ -37,98 +37,54 @@ fn wash(rt: &impl Abort, alloc: Global) -> Profile {
     set_apart(rt, alloc, 1, particular)
 }
 
-/// What PARAMETER_DESCRIPTION tells of the colour temperature.
-const COLOUR: [u8; 38] = [
-    0x80, 0x01, 0x02, 0x05, 0x03, 0x00, 0x1C, 0x11, 0x00, 0x00, 0x07, 0xD0, 0x00, 0x00, 0x1F, 0x40,
-    0x00, 0x00, 0x15, 0xE0, b'C', b'o', b'l', b'o', b'u', b'r', b' ', b't', b'e', b'm', b'p', b'e',
-    b'r', b'a', b't', b'u', b'r', b'e',
-];
-
-/// What it tells of a signed number, and of a text.
-const TRIM: [u8; 20] = [
-    0x80, 0x10, 0x01, 0x04, 0x03, 0x00, 0x00, 0x00, 0x00, 0x00, 0x00, 0xEC, 0x00, 0x00, 0x00, 0x14,
-    0x00, 0x00, 0x00, 0xFF,
-];
-
-const SHOW: [u8; 20] = [
-    0x80, 0x20, 0x20, 0x02, 0x02, 0x00, 0x00, 0x00, 0x00, 0x00, 0x00, 0x00, 0x00, 0x00, 0x00, 0x00,
-    0x00, 0x00, 0x00, 0x00,
-];
-
-/// The PIDs that the root supports, with its own and without those that it lacks.
-const ROOT: [u8; 74] = [
-    0x00, 0x20, 0x00, 0x30, 0x00, 0x31, 0x00, 0x32, 0x00, 0x33, 0x00, 0x80, 0x00, 0x81, 0x00, 0x82,
-    0x00, 0x90, 0x00, 0xA0, 0x00, 0xB0, 0x00, 0xC1, 0x00, 0xC2, 0x00, 0xE0, 0x00, 0xE1, 0x01, 0x20,
-    0x01, 0x21, 0x01, 0x22, 0x02, 0x00, 0x02, 0x01, 0x02, 0x02, 0x04, 0x00, 0x04, 0x01, 0x04, 0x03,
-    0x04, 0x04, 0x04, 0x05, 0x05, 0x00, 0x05, 0x01, 0x10, 0x10, 0x10, 0x20, 0x10, 0x21, 0x10, 0x31,
-    0x10, 0x40, 0x80, 0x01, 0x80, 0x02, 0x80, 0x10, 0x80, 0x20,
-];
-
-/// Those of the sub-device.
-const SUB: [u8; 20] = [
-    0x00, 0x33, 0x00, 0x80, 0x00, 0x81, 0x00, 0x82, 0x00, 0xE0, 0x00, 0xE1, 0x04, 0x01, 0x04, 0x03,
-    0x04, 0x04, 0x10, 0x10,
-];
-
-const STEPS: &[Step<'static>] = &[
-    (Get, 0, 0x8001, &[], Reply(&[0x15, 0xE0])),
-    (Set, 0, 0x8001, &[0x0F, 0xA0], Reply(&[])),
-    (Get, 0, 0x8001, &[], Reply(&[0x0F, 0xA0])),
-    (Set, 0, 0x8001, &[0x07, 0xCF], Refuse(DataOutOfRange)),
-    (Set, 0, 0x8001, &[0x1F, 0x41], Refuse(DataOutOfRange)),
-    (Set, 0, 0x8001, &[0x1F], Refuse(FormatError)),
-    (Get, 0, 0x8001, &[0], Refuse(FormatError)),
-    (Get, 0, 0x8001, &[], Reply(&[0x0F, 0xA0])),
-    (Get, 0, 0x8002, &[], Reply(&[0, 0, 0, 7])),
-    (
-        Set,
-        0,
-        0x8002,
-        &[0, 0, 0, 1],
-        Refuse(UnsupportedCommandClass),
-    ),
-    (Get, 0, 0x8010, &[], Reply(&[0xFF])),
-    (Set, 0, 0x8010, &[0xEC], Reply(&[])),
-    (Set, 0, 0x8010, &[0xEB], Refuse(DataOutOfRange)),
-    (Set, 0, 0x8010, &[21], Refuse(DataOutOfRange)),
-    (Get, 0, 0x8010, &[], Reply(&[0xEC])),
-    (Set, 0, 0x8020, b"", Reply(&[])),
-    (Get, 0, 0x8020, &[], Refuse(UnsupportedCommandClass)),
-    (Set, 0, 0x8020, &[b'T'; 33], Refuse(FormatError)),
-    (Set, 0, 0x1040, &[1], Reply(&[])),
-    (Get, 0, 0x1040, &[], Reply(&[1])),
-    // The root alone has them.
-    (Get, 1, 0x8001, &[], Refuse(UnknownPid)),
-    (Set, 1, 0x8001, &[0x0F, 0xA0], Refuse(UnknownPid)),
-    (Set, 0xFFFF, 0x8001, &[0x0F, 0xA0], Refuse(UnknownPid)),
-    (Get, 2, 0x8001, &[], Refuse(SubDeviceOutOfRange)),
-    (Get, 0, 0x8003, &[], Refuse(UnknownPid)),
-    (Set, 0, 0x8003, &[1], Refuse(UnknownPid)),
-    // PARAMETER_DESCRIPTION.
-    (Get, 0, 0x0051, &[0x80, 0x01], Reply(&COLOUR)),
-    (Get, 0, 0x0051, &[0x80, 0x10], Reply(&TRIM)),
-    (Get, 0, 0x0051, &[0x80, 0x20], Reply(&SHOW)),
-    (Get, 0, 0x0051, &[0x80, 0x03], Refuse(DataOutOfRange)),
-    (Get, 0, 0x0051, &[0x10, 0x40], Refuse(DataOutOfRange)),
-    (Get, 0, 0x0051, &[0x80], Refuse(FormatError)),
-    (
-        Set,
-        0,
-        0x0051,
-        &[0x80, 0x01],
-        Refuse(UnsupportedCommandClass),
-    ),
-    (Get, 1, 0x0051, &[0x80, 0x01], Refuse(UnknownPid)),
-    // What the fixture lacks.
-    (Get, 0, 0x0402, &[], Refuse(UnknownPid)),
-    (Set, 0, 0x0600, &[1], Refuse(UnknownPid)),
-    (Get, 1, 0x0402, &[], Refuse(UnknownPid)),
-    (Set, 0xFFFF, 0x0402, &[0, 0, 0, 1], Refuse(UnknownPid)),
-    (Get, 0, 0x0401, &[], Reply(&[0, 0, 0, 0])),
-    (Get, 0, 0x0050, &[], Reply(&ROOT)),
-    (Get, 1, 0x0050, &[], Reply(&SUB)),
-    (Get, 0, 0x0050, &[0], Refuse(FormatError)),
-];
+const STEPS: &str = "
+get 0000 8001 = ack 15 E0
+set 0000 8001 0F A0 = ack
+get 0000 8001 = ack 0F A0
+set 0000 8001 07 CF = nack data out of range
+set 0000 8001 1F 41 = nack data out of range
+set 0000 8001 1F = nack format error
+get 0000 8001 00 = nack format error
+get 0000 8001 = ack 0F A0
+get 0000 8002 = ack 00 00 00 07
+set 0000 8002 00 00 00 01 = nack unsupported command class
+get 0000 8010 = ack FF
+set 0000 8010 EC = ack
+set 0000 8010 EB = nack data out of range
+set 0000 8010 15 = nack data out of range
+get 0000 8010 = ack EC
+set 0000 8020 = ack
+get 0000 8020 = nack unsupported command class
+set 0000 8020 'TTTTTTTTTTTTTTTTTTTTTTTTTTTTTTTTT' = nack format error
+set 0000 1040 01 = ack
+get 0000 1040 = ack 01
+// The root alone has them.
+get 0001 8001 = nack unknown PID
+set 0001 8001 0F A0 = nack unknown PID
+set FFFF 8001 0F A0 = nack unknown PID
+get 0002 8001 = nack sub-device out of range
+get 0000 8003 = nack unknown PID
+set 0000 8003 01 = nack unknown PID
+// PARAMETER_DESCRIPTION.
+get 0000 0051 80 01 = ack 80 01 02 05 03 00 1C 11 00 00 07 D0 00 00 1F 40 00 00 15 E0 'Colour temperature'
+get 0000 0051 80 10 = ack 80 10 01 04 03 00 00 00 00 00 00 EC 00 00 00 14 00 00 00 FF
+get 0000 0051 80 20 = ack 80 20 20 02 02 00 00 00 00 00 00 00 00 00 00 00 00 00 00 00
+get 0000 0051 80 03 = nack data out of range
+get 0000 0051 10 40 = nack data out of range
+get 0000 0051 80 = nack format error
+set 0000 0051 80 01 = nack unsupported command class
+get 0001 0051 80 01 = nack unknown PID
+// What the fixture lacks.
+get 0000 0402 = nack unknown PID
+set 0000 0600 01 = nack unknown PID
+get 0001 0402 = nack unknown PID
+set FFFF 0402 00 00 00 01 = nack unknown PID
+get 0000 0401 = ack 00 00 00 00
+get 0000 0050 = ack 00 20 00 30 00 31 00 32 00 33 00 80 00 81 00 82 00 90 00 A0 00 B0 00 C1 00 C2 00 E0 00 E1 01 20 01 21 01 22 02 \
+    00 02 01 02 02 04 00 04 01 04 03 04 04 04 05 05 00 05 01 10 10 10 20 10 21 10 31 10 40 80 01 80 02 80 10 80 20
+get 0001 0050 = ack 00 33 00 80 00 81 00 82 00 E0 00 E1 04 01 04 03 04 04 10 10
+get 0000 0050 00 = nack format error
+";
 
 #[test]
 fn a_fixture_has_the_parameters_that_it_has(rt: HostRuntime) {
@@ -139,20 +95,22 @@ fn a_fixture_has_the_parameters_that_it_has(rt: HostRuntime) {
 /// The demonstration has no description.
 pub(super) const RUNS: &[Run] = &[(0, NO_DESCRIPTION)];
 
-const NO_DESCRIPTION: &[Step<'static>] = &[(Get, 0, 0x0051, &[0x80, 0x01], Refuse(UnknownPid))];
+const NO_DESCRIPTION: &str = "
+get 0000 0051 80 01 = nack unknown PID
+";
 
 /// The trim isn't set back, and the colour temperature is.
-const DEFAULTS: &[Step<'static>] = &[
-    (Get, 0, 0x0090, &[], Reply(&[1])),
-    (Set, 0, 0x8010, &[3], Reply(&[])),
-    (Get, 0, 0x0090, &[], Reply(&[1])),
-    (Set, 0, 0x8001, &[0x0F, 0xA0], Reply(&[])),
-    (Get, 0, 0x0090, &[], Reply(&[0])),
-    (Set, 0, 0x0090, &[], Reply(&[])),
-    (Get, 0, 0x8001, &[], Reply(&[0x15, 0xE0])),
-    (Get, 0, 0x8010, &[], Reply(&[3])),
-    (Get, 0, 0x0090, &[], Reply(&[1])),
-];
+const DEFAULTS: &str = "
+get 0000 0090 = ack 01
+set 0000 8010 03 = ack
+get 0000 0090 = ack 01
+set 0000 8001 0F A0 = ack
+get 0000 0090 = ack 00
+set 0000 0090 = ack
+get 0000 8001 = ack 15 E0
+get 0000 8010 = ack 03
+get 0000 0090 = ack 01
+";
 
 #[test]
 fn factory_defaults_set_back_what_says_so(rt: HostRuntime) {
@@ -160,33 +118,31 @@ fn factory_defaults_set_back_what_says_so(rt: HostRuntime) {
     plays(&rt, &mut made(&rt, rt.alloc(), profile), DEFAULTS);
 }
 
-use PlaceError::{Length, NoDevice, NoValue, OutOfRange};
-
 /// What firmware places at the fixture: the sub-device, the PID, the data, and why it is refused.
-const PLACED: &[Placed<'static>] = &[
-    // One without SET, and one without GET.
-    (0, 0x8002, &[0, 0, 0, 9], Ok(())),
-    (0, 0x8020, b"Encore", Ok(())),
-    (0, 0x8001, &[0x1F, 0x40], Ok(())),
-    (0, 0x8002, &[0, 0, 0, 10], Err(OutOfRange)),
-    (0, 0x8001, &[0x1F], Err(Length)),
-    (1, 0x8001, &[0x1F, 0x40], Err(NoValue)),
-    (2, 0x8001, &[0x1F, 0x40], Err(NoDevice)),
-    (0, 0x0051, &[0x80, 0x01], Err(NoValue)),
-    // What the fixture lacks.
-    (0, 0x0402, &[0, 0, 0, 1], Err(NoValue)),
-];
+const PLACED: &str = "
+// One without SET, and one without GET.
+place 0000 8002 00 00 00 09 = ok
+place 0000 8020 'Encore' = ok
+place 0000 8001 1F 40 = ok
+place 0000 8002 00 00 00 0A = out of range
+place 0000 8001 1F = length
+place 0001 8001 1F 40 = no value
+place 0002 8001 1F 40 = no device
+place 0000 0051 80 01 = no value
+// What the fixture lacks.
+place 0000 0402 00 00 00 01 = no value
+";
 
-const SHOWN: &[Step<'static>] = &[
-    (Get, 0, 0x8002, &[], Reply(&[0, 0, 0, 9])),
-    (Get, 0, 0x8001, &[], Reply(&[0x1F, 0x40])),
-    (Get, 0, 0x0090, &[], Reply(&[0])),
-];
+const SHOWN: &str = "
+get 0000 8002 = ack 00 00 00 09
+get 0000 8001 = ack 1F 40
+get 0000 0090 = ack 00
+";
 
 #[test]
 fn what_is_placed_of_its_own_is_shown(rt: HostRuntime) {
     let profile = wash(&rt, rt.alloc());
     let mut devices = made(&rt, rt.alloc(), profile);
-    place_all(&rt, &mut devices, PLACED);
+    plays(&rt, &mut devices, PLACED);
     plays(&rt, &mut devices, SHOWN);
 }

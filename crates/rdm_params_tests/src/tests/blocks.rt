@@ -1,6 +1,5 @@
 //! DMX_BLOCK_ADDRESS: where the slots of all sub-devices lie.
 
-use super::changes::{Told, tells};
 use super::*;
 
 /// A parameter that tells where the slots of all sub-devices lie.
@@ -52,71 +51,71 @@ fn lock_up(rt: &impl Abort, alloc: Global, particular: &mut Particular, pid: u16
     add_locks(rt, alloc, &mut particular.locks, &[(1, pid)]);
 }
 
-const STEPS: &[Step<'static>] = &[
-    // All start at 1, and so don't follow one another.
-    (Get, 0, 0x0140, &[], Reply(&[0, 3, 0xFF, 0xFF])),
-    (Set, 0, 0x0140, &[0, 10], Reply(&[])),
-    (Get, 0, 0x0140, &[], Reply(&[0, 3, 0, 10])),
-    (Get, 0, 0x00F0, &[], Reply(&[0, 1])),
-    (Get, 1, 0x00F0, &[], Reply(&[0, 10])),
-    (Get, 2, 0x00F0, &[], Reply(&[0, 11])),
-    (Get, 3, 0x00F0, &[], Reply(&[0, 12])),
-    // The last slot is 512 at most.
-    (Set, 0, 0x0140, &[1, 0xFE], Reply(&[])),
-    (Get, 3, 0x00F0, &[], Reply(&[2, 0])),
-    (Get, 0, 0x0140, &[], Reply(&[0, 3, 1, 0xFE])),
-    (Set, 0, 0x0140, &[1, 0xFF], Refuse(DataOutOfRange)),
-    (Set, 0, 0x0140, &[2, 1], Refuse(DataOutOfRange)),
-    (Set, 0, 0x0140, &[0xFF, 0xFF], Refuse(DataOutOfRange)),
-    (Set, 0, 0x0140, &[0, 0], Refuse(DataOutOfRange)),
-    (Get, 0, 0x0140, &[], Reply(&[0, 3, 1, 0xFE])),
-    // Other lengths.
-    (Set, 0, 0x0140, &[], Refuse(FormatError)),
-    (Set, 0, 0x0140, &[1], Refuse(FormatError)),
-    (Set, 0, 0x0140, &[0, 1, 0], Refuse(FormatError)),
-    (Get, 0, 0x0140, &[0], Refuse(FormatError)),
-    // It is the root's.
-    (Get, 1, 0x0140, &[], Refuse(UnknownPid)),
-    (Set, 1, 0x0140, &[0, 1], Refuse(UnknownPid)),
-    (Get, 4, 0x0140, &[], Refuse(SubDeviceOutOfRange)),
-    (Set, 4, 0x0140, &[0, 1], Refuse(SubDeviceOutOfRange)),
-    (Get, 0xFFFF, 0x0140, &[], Refuse(SubDeviceOutOfRange)),
-    (Set, 0xFFFF, 0x0140, &[0, 1], Refuse(UnknownPid)),
-    // The second uses two slots: the third starts too early for it, and then behind it.
-    (Set, 0, 0x0140, &[0, 100], Reply(&[])),
-    (Set, 2, 0x00E0, &[2], Reply(&[])),
-    (Get, 0, 0x0140, &[], Reply(&[0, 4, 0xFF, 0xFF])),
-    (Set, 3, 0x00F0, &[0, 103], Reply(&[])),
-    (Get, 0, 0x0140, &[], Reply(&[0, 4, 0, 100])),
-    (Set, 3, 0x00F0, &[0, 104], Reply(&[])),
-    (Get, 0, 0x0140, &[], Reply(&[0, 4, 0xFF, 0xFF])),
-    // The first uses none, and keeps its start address.
-    (Set, 1, 0x00E0, &[3], Reply(&[])),
-    (Set, 0, 0x0140, &[0, 7], Reply(&[])),
-    (Get, 0, 0x0140, &[], Reply(&[0, 3, 0, 7])),
-    (Get, 2, 0x00F0, &[], Reply(&[0, 7])),
-    (Get, 3, 0x00F0, &[], Reply(&[0, 9])),
-    (Set, 1, 0x00E0, &[1], Reply(&[])),
-    (Get, 1, 0x00F0, &[], Reply(&[0, 100])),
-    // None uses any.
-    (Set, 0xFFFF, 0x00E0, &[3], Reply(&[])),
-    (Get, 0, 0x0140, &[], Reply(&[0, 0, 0xFF, 0xFF])),
-    (Set, 0, 0x0140, &[0, 1], Refuse(DataOutOfRange)),
-    // What the factory set is set back at the root alone.
-    (Set, 0, 0x0090, &[], Reply(&[])),
-    (Set, 2, 0x00E0, &[1], Reply(&[])),
-    (Get, 2, 0x00F0, &[], Reply(&[0, 7])),
-];
+const STEPS: &str = "
+// All start at 1, and so don't follow one another.
+get 0000 0140 = ack 00 03 FF FF
+set 0000 0140 00 0A = ack
+get 0000 0140 = ack 00 03 00 0A
+get 0000 00F0 = ack 00 01
+get 0001 00F0 = ack 00 0A
+get 0002 00F0 = ack 00 0B
+get 0003 00F0 = ack 00 0C
+// The last slot is 512 at most.
+set 0000 0140 01 FE = ack
+get 0003 00F0 = ack 02 00
+get 0000 0140 = ack 00 03 01 FE
+set 0000 0140 01 FF = nack data out of range
+set 0000 0140 02 01 = nack data out of range
+set 0000 0140 FF FF = nack data out of range
+set 0000 0140 00 00 = nack data out of range
+get 0000 0140 = ack 00 03 01 FE
+// Other lengths.
+set 0000 0140 = nack format error
+set 0000 0140 01 = nack format error
+set 0000 0140 00 01 00 = nack format error
+get 0000 0140 00 = nack format error
+// It is the root's.
+get 0001 0140 = nack unknown PID
+set 0001 0140 00 01 = nack unknown PID
+get 0004 0140 = nack sub-device out of range
+set 0004 0140 00 01 = nack sub-device out of range
+get FFFF 0140 = nack sub-device out of range
+set FFFF 0140 00 01 = nack unknown PID
+// The second uses two slots: the third starts too early for it, and then behind it.
+set 0000 0140 00 64 = ack
+set 0002 00E0 02 = ack
+get 0000 0140 = ack 00 04 FF FF
+set 0003 00F0 00 67 = ack
+get 0000 0140 = ack 00 04 00 64
+set 0003 00F0 00 68 = ack
+get 0000 0140 = ack 00 04 FF FF
+// The first uses none, and keeps its start address.
+set 0001 00E0 03 = ack
+set 0000 0140 00 07 = ack
+get 0000 0140 = ack 00 03 00 07
+get 0002 00F0 = ack 00 07
+get 0003 00F0 = ack 00 09
+set 0001 00E0 01 = ack
+get 0001 00F0 = ack 00 64
+// None uses any.
+set FFFF 00E0 03 = ack
+get 0000 0140 = ack 00 00 FF FF
+set 0000 0140 00 01 = nack data out of range
+// What the factory set is set back at the root alone.
+set 0000 0090 = ack
+set 0002 00E0 01 = ack
+get 0002 00F0 = ack 00 07
+";
 
 #[test]
 fn a_block_is_told_and_moved(rt: HostRuntime) {
     plays(&rt, &mut rack(&rt, rt.alloc(), 3, None), STEPS);
 }
 
-const NO_BLOCK: &[Step<'static>] = &[
-    (Get, 0, 0x0140, &[], Reply(&[0, 0, 0xFF, 0xFF])),
-    (Set, 0, 0x0140, &[0, 1], Refuse(DataOutOfRange)),
-];
+const NO_BLOCK: &str = "
+get 0000 0140 = ack 00 00 FF FF
+set 0000 0140 00 01 = nack data out of range
+";
 
 #[test]
 fn without_sub_devices_there_is_no_block(rt: HostRuntime) {
@@ -124,21 +123,21 @@ fn without_sub_devices_there_is_no_block(rt: HostRuntime) {
 }
 
 /// A lock of the block, and one of the start address.
-const LOCKED: &[Step<'static>] = &[
-    (Set, 0, 0x0140, &[0, 5], Refuse(WriteProtect)),
-    (Get, 0, 0x0140, &[], Reply(&[0, 2, 0xFF, 0xFF])),
-];
+const LOCKED: &str = "
+set 0000 0140 00 05 = nack write protect
+get 0000 0140 = ack 00 02 FF FF
+";
 
-const STARTS_LOCKED: &[Step<'static>] = &[
-    (Set, 1, 0x00F0, &[0, 5], Refuse(WriteProtect)),
-    (Set, 0, 0x0140, &[0, 5], Refuse(WriteProtect)),
-    (Get, 0, 0x0140, &[], Reply(&[0, 2, 0xFF, 0xFF])),
-    // Before its data are looked at, and behind what the device lacks.
-    (Set, 0, 0x0140, &[0, 0], Refuse(WriteProtect)),
-    (Set, 0, 0x0140, &[5], Refuse(WriteProtect)),
-    (Set, 1, 0x0140, &[0, 5], Refuse(UnknownPid)),
-    (Set, 4, 0x0140, &[0, 5], Refuse(SubDeviceOutOfRange)),
-];
+const STARTS_LOCKED: &str = "
+set 0001 00F0 00 05 = nack write protect
+set 0000 0140 00 05 = nack write protect
+get 0000 0140 = ack 00 02 FF FF
+// Before its data are looked at, and behind what the device lacks.
+set 0000 0140 00 00 = nack write protect
+set 0000 0140 05 = nack write protect
+set 0001 0140 00 05 = nack unknown PID
+set 0004 0140 00 05 = nack sub-device out of range
+";
 
 #[test]
 fn a_block_is_locked_with_its_start_addresses(rt: HostRuntime) {
@@ -148,27 +147,27 @@ fn a_block_is_locked_with_its_start_addresses(rt: HostRuntime) {
 }
 
 /// The sub-devices keep where it begins.
-const PLACED: &[Placed<'static>] = &[
-    (0, 0x0140, &[], Err(PlaceError::NoValue)),
-    (0, 0x0140, &[0, 1], Err(PlaceError::NoValue)),
-    (0, 0x0140, &[0, 10], Err(PlaceError::NoValue)),
-];
+const PLACED: &str = "
+place 0000 0140 = no value
+place 0000 0140 00 01 = no value
+place 0000 0140 00 0A = no value
+";
 
 #[test]
 fn a_block_can_not_be_placed(rt: HostRuntime) {
-    place_all(&rt, &mut rack(&rt, rt.alloc(), 2, None), PLACED);
+    plays(&rt, &mut rack(&rt, rt.alloc(), 2, None), PLACED);
 }
 
-const CHANGED: &[Told] = &[
-    (0, 0x0140, &[0, 1], Some(Changed::Several)),
-    (0, 0x0140, &[0, 1], None),
-    (0, 0x0140, &[0, 2], Some(Changed::Several)),
-    (0, 0x0140, &[0, 0], None),
-];
+const CHANGED: &str = "
+tell 0000 0140 00 01 = several
+tell 0000 0140 00 01 = nothing
+tell 0000 0140 00 02 = several
+tell 0000 0140 00 00 = nothing
+";
 
 #[test]
 fn a_block_tells_that_several_values_changed(rt: HostRuntime) {
-    tells(&rt, &mut rack(&rt, rt.alloc(), 2, None), CHANGED);
+    plays(&rt, &mut rack(&rt, rt.alloc(), 2, None), CHANGED);
 }
 
 /// A PID, commands, data and what these start with, and whether a profile can have them.

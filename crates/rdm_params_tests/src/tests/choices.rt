@@ -47,35 +47,35 @@ fn dimmer(rt: &impl Abort, alloc: Global) -> Profile {
     set_apart(rt, alloc, 1, particular)
 }
 
-const STEPS: &[Step<'static>] = &[
-    // Which one is chosen, of how many.
-    (Get, 0, 0x0343, &[], Reply(&[1, 3])),
-    (Set, 0, 0x0343, &[3], Reply(&[])),
-    (Get, 0, 0x0343, &[], Reply(&[3, 3])),
-    (Set, 0, 0x0343, &[0], Refuse(DataOutOfRange)),
-    (Set, 0, 0x0343, &[4], Refuse(DataOutOfRange)),
-    (Set, 0, 0x0343, &[], Refuse(FormatError)),
-    (Set, 0, 0x0343, &[3, 3], Refuse(FormatError)),
-    (Get, 0, 0x0343, &[3], Refuse(FormatError)),
-    (Get, 0, 0x0347, &[], Reply(&[1, 2])),
-    // What they are called.
-    (Get, 0, 0x0344, &[1], Reply(b"\x01Linear")),
-    (Get, 0, 0x0344, &[2], Reply(b"\x02Square law")),
-    (Get, 0, 0x0344, &[3], Reply(b"\x03S")),
-    (Get, 0, 0x0344, &[0], Refuse(DataOutOfRange)),
-    (Get, 0, 0x0344, &[4], Refuse(DataOutOfRange)),
-    (Get, 0, 0x0344, &[], Refuse(FormatError)),
-    (Get, 0, 0x0344, &[0, 1], Refuse(FormatError)),
-    (Set, 0, 0x0344, &[1], Refuse(UnsupportedCommandClass)),
-    (Get, 0, 0x0348, &[1], Reply(b"\x01\x00\x00\x00\x78120 Hz")),
-    (Get, 0, 0x0348, &[2], Reply(b"\x02\x00\x00\x27\x1010 kHz")),
-    (Get, 0, 0x0348, &[3], Refuse(DataOutOfRange)),
-    (Get, 1, 0x0344, &[1], Refuse(UnknownPid)),
-    // FACTORY_DEFAULTS sets the curve back.
-    (Get, 0, 0x0090, &[], Reply(&[0])),
-    (Set, 0, 0x0090, &[], Reply(&[])),
-    (Get, 0, 0x0343, &[], Reply(&[1, 3])),
-];
+const STEPS: &str = "
+// Which one is chosen, of how many.
+get 0000 0343 = ack 01 03
+set 0000 0343 03 = ack
+get 0000 0343 = ack 03 03
+set 0000 0343 00 = nack data out of range
+set 0000 0343 04 = nack data out of range
+set 0000 0343 = nack format error
+set 0000 0343 03 03 = nack format error
+get 0000 0343 03 = nack format error
+get 0000 0347 = ack 01 02
+// What they are called.
+get 0000 0344 01 = ack 01 'Linear'
+get 0000 0344 02 = ack 02 'Square law'
+get 0000 0344 03 = ack 03 'S'
+get 0000 0344 00 = nack data out of range
+get 0000 0344 04 = nack data out of range
+get 0000 0344 = nack format error
+get 0000 0344 00 01 = nack format error
+set 0000 0344 01 = nack unsupported command class
+get 0000 0348 01 = ack 01 00 00 00 'x120 Hz'
+get 0000 0348 02 = ack 02 00 00 27 10 '10 kHz'
+get 0000 0348 03 = nack data out of range
+get 0001 0344 01 = nack unknown PID
+// FACTORY_DEFAULTS sets the curve back.
+get 0000 0090 = ack 00
+set 0000 0090 = ack
+get 0000 0343 = ack 01 03
+";
 
 #[test]
 fn choices_are_named(rt: HostRuntime) {
@@ -83,20 +83,22 @@ fn choices_are_named(rt: HostRuntime) {
     plays(&rt, &mut made(&rt, rt.alloc(), profile), STEPS);
 }
 
-const PLACED: &[Placed<'static>] = &[
-    (0, 0x0344, &[], Err(PlaceError::NoValue)),
-    (0, 0x0348, &[], Err(PlaceError::NoValue)),
-    (0, 0x0343, &[2], Ok(())),
-];
+const PLACED: &str = "
+place 0000 0344 = no value
+place 0000 0348 = no value
+place 0000 0343 02 = ok
+";
 
-const CHOSEN: &[Step<'static>] = &[(Get, 0, 0x0343, &[], Reply(&[2, 3]))];
+const CHOSEN: &str = "
+get 0000 0343 = ack 02 03
+";
 
 /// Names are the profile's, and what is chosen is placed as a value.
 #[test]
 fn names_of_choices_can_not_be_placed(rt: HostRuntime) {
     let profile = dimmer(&rt, rt.alloc());
     let mut devices = made(&rt, rt.alloc(), profile);
-    place_all(&rt, &mut devices, PLACED);
+    plays(&rt, &mut devices, PLACED);
     plays(&rt, &mut devices, CHOSEN);
 }
 

@@ -48,48 +48,50 @@ fn a_reply_takes_the_place_of_the_last(rt: HostRuntime) {
 }
 
 /// Each device has its own values.
-const OWN_VALUES: &[Step<'static>] = &[
-    (Set, 2, 0x1000, &[1], Reply(&[])),
-    (Get, 0, 0x1000, &[], Reply(&[0])),
-    (Get, 1, 0x1000, &[], Reply(&[0])),
-    (Get, 2, 0x1000, &[], Reply(&[1])),
-    (Get, 3, 0x1000, &[], Refuse(SubDeviceOutOfRange)),
-    (Get, 0xFFFF, 0x1000, &[], Refuse(SubDeviceOutOfRange)),
-    (Set, 3, 0x1000, &[1], Refuse(SubDeviceOutOfRange)),
-    (Get, 1, 0x0400, &[], Refuse(UnknownPid)),
-    (Set, 1, 0x0090, &[], Refuse(UnknownPid)),
-];
+const OWN_VALUES: &str = "
+set 0002 1000 01 = ack
+get 0000 1000 = ack 00
+get 0001 1000 = ack 00
+get 0002 1000 = ack 01
+get 0003 1000 = nack sub-device out of range
+get FFFF 1000 = nack sub-device out of range
+set 0003 1000 01 = nack sub-device out of range
+get 0001 0400 = nack unknown PID
+set 0001 0090 = nack unknown PID
+";
 
 /// All-call is for every sub-device, and for none where there are none.
-const NO_SUB_DEVICE: &[Step<'static>] = &[(Set, 0xFFFF, 0x1000, &[1], Refuse(SubDeviceOutOfRange))];
+const NO_SUB_DEVICE: &str = "
+set FFFF 1000 01 = nack sub-device out of range
+";
 
-const ALL_CALL: &[Step<'static>] = &[
-    (Set, 0xFFFF, 0x1000, &[1], Reply(&[])),
-    (Get, 0, 0x1000, &[], Reply(&[0])),
-    (Get, 1, 0x1000, &[], Reply(&[1])),
-    (Get, 2, 0x1000, &[], Reply(&[1])),
-    (Get, 3, 0x1000, &[], Reply(&[1])),
-    (Set, 0xFFFF, 0x0403, &[1], Refuse(SubDeviceOutOfRange)),
-    (Set, 0xFFFF, 0x0403, &[9], Refuse(DataOutOfRange)),
-    (Set, 0xFFFF, 0x1000, &[], Refuse(FormatError)),
-    (Set, 0xFFFF, 0x0400, &[], Refuse(UnknownPid)),
-];
+const ALL_CALL: &str = "
+set FFFF 1000 01 = ack
+get 0000 1000 = ack 00
+get 0001 1000 = ack 01
+get 0002 1000 = ack 01
+get 0003 1000 = ack 01
+set FFFF 0403 01 = nack sub-device out of range
+set FFFF 0403 09 = nack data out of range
+set FFFF 1000 = nack format error
+set FFFF 0400 = nack unknown PID
+";
 
 /// All-call changes all or none: the third cell has a personality without slots first, and then none has.
-const NONE_CHANGES: &[Step<'static>] = &[
-    (Set, 3, 0x00E0, &[2], Reply(&[])),
-    (Set, 0xFFFF, 0x00F0, &[0, 9], Refuse(DataOutOfRange)),
-    (Get, 1, 0x00F0, &[], Reply(&[0, 1])),
-    (Get, 2, 0x00F0, &[], Reply(&[0, 1])),
-    (Get, 3, 0x00F0, &[], Reply(&[0xFF, 0xFF])),
-];
+const NONE_CHANGES: &str = "
+set 0003 00E0 02 = ack
+set FFFF 00F0 00 09 = nack data out of range
+get 0001 00F0 = ack 00 01
+get 0002 00F0 = ack 00 01
+get 0003 00F0 = ack FF FF
+";
 
-const ALL_CHANGE: &[Step<'static>] = &[
-    (Set, 0xFFFF, 0x00E0, &[1], Reply(&[])),
-    (Set, 0xFFFF, 0x00F0, &[0, 9], Reply(&[])),
-    (Get, 3, 0x00F0, &[], Reply(&[0, 9])),
-    (Get, 0, 0x00F0, &[], Reply(&[0, 1])),
-];
+const ALL_CHANGE: &str = "
+set FFFF 00E0 01 = ack
+set FFFF 00F0 00 09 = ack
+get 0003 00F0 = ack 00 09
+get 0000 00F0 = ack 00 01
+";
 
 /// Three cells, each with a second personality that uses no slots.
 fn cells(rt: &impl Abort) -> Profile {
@@ -114,37 +116,6 @@ fn all_call_changes_all_or_none(rt: HostRuntime) {
 
 /// The longest text.
 const LONGEST: [u8; 32] = [b'T'; 32];
-
-/// What SLOT_INFO and DEFAULT_SLOT_VALUE tell of 46 slots: those of the demo fixture, and 41 blanks.
-const INFOS: [u8; 230] = [
-    0x00, 0x00, 0x00, 0x00, 0x01, 0x00, 0x01, 0x00, 0x01, 0x01, 0x00, 0x02, 0x00, 0x01, 0x02, 0x00,
-    0x03, 0x01, 0x00, 0x01, 0x00, 0x04, 0x01, 0x00, 0x02, 0x00, 0x05, 0x00, 0x00, 0x00, 0x00, 0x06,
-    0x00, 0x00, 0x00, 0x00, 0x07, 0x00, 0x00, 0x00, 0x00, 0x08, 0x00, 0x00, 0x00, 0x00, 0x09, 0x00,
-    0x00, 0x00, 0x00, 0x0A, 0x00, 0x00, 0x00, 0x00, 0x0B, 0x00, 0x00, 0x00, 0x00, 0x0C, 0x00, 0x00,
-    0x00, 0x00, 0x0D, 0x00, 0x00, 0x00, 0x00, 0x0E, 0x00, 0x00, 0x00, 0x00, 0x0F, 0x00, 0x00, 0x00,
-    0x00, 0x10, 0x00, 0x00, 0x00, 0x00, 0x11, 0x00, 0x00, 0x00, 0x00, 0x12, 0x00, 0x00, 0x00, 0x00,
-    0x13, 0x00, 0x00, 0x00, 0x00, 0x14, 0x00, 0x00, 0x00, 0x00, 0x15, 0x00, 0x00, 0x00, 0x00, 0x16,
-    0x00, 0x00, 0x00, 0x00, 0x17, 0x00, 0x00, 0x00, 0x00, 0x18, 0x00, 0x00, 0x00, 0x00, 0x19, 0x00,
-    0x00, 0x00, 0x00, 0x1A, 0x00, 0x00, 0x00, 0x00, 0x1B, 0x00, 0x00, 0x00, 0x00, 0x1C, 0x00, 0x00,
-    0x00, 0x00, 0x1D, 0x00, 0x00, 0x00, 0x00, 0x1E, 0x00, 0x00, 0x00, 0x00, 0x1F, 0x00, 0x00, 0x00,
-    0x00, 0x20, 0x00, 0x00, 0x00, 0x00, 0x21, 0x00, 0x00, 0x00, 0x00, 0x22, 0x00, 0x00, 0x00, 0x00,
-    0x23, 0x00, 0x00, 0x00, 0x00, 0x24, 0x00, 0x00, 0x00, 0x00, 0x25, 0x00, 0x00, 0x00, 0x00, 0x26,
-    0x00, 0x00, 0x00, 0x00, 0x27, 0x00, 0x00, 0x00, 0x00, 0x28, 0x00, 0x00, 0x00, 0x00, 0x29, 0x00,
-    0x00, 0x00, 0x00, 0x2A, 0x00, 0x00, 0x00, 0x00, 0x2B, 0x00, 0x00, 0x00, 0x00, 0x2C, 0x00, 0x00,
-    0x00, 0x00, 0x2D, 0x00, 0x00, 0x00,
-];
-
-const DEFAULTS: [u8; 138] = [
-    0x00, 0x00, 0x00, 0x00, 0x01, 0x80, 0x00, 0x02, 0x80, 0x00, 0x03, 0x00, 0x00, 0x04, 0x00, 0x00,
-    0x05, 0x00, 0x00, 0x06, 0x00, 0x00, 0x07, 0x00, 0x00, 0x08, 0x00, 0x00, 0x09, 0x00, 0x00, 0x0A,
-    0x00, 0x00, 0x0B, 0x00, 0x00, 0x0C, 0x00, 0x00, 0x0D, 0x00, 0x00, 0x0E, 0x00, 0x00, 0x0F, 0x00,
-    0x00, 0x10, 0x00, 0x00, 0x11, 0x00, 0x00, 0x12, 0x00, 0x00, 0x13, 0x00, 0x00, 0x14, 0x00, 0x00,
-    0x15, 0x00, 0x00, 0x16, 0x00, 0x00, 0x17, 0x00, 0x00, 0x18, 0x00, 0x00, 0x19, 0x00, 0x00, 0x1A,
-    0x00, 0x00, 0x1B, 0x00, 0x00, 0x1C, 0x00, 0x00, 0x1D, 0x00, 0x00, 0x1E, 0x00, 0x00, 0x1F, 0x00,
-    0x00, 0x20, 0x00, 0x00, 0x21, 0x00, 0x00, 0x22, 0x00, 0x00, 0x23, 0x00, 0x00, 0x24, 0x00, 0x00,
-    0x25, 0x00, 0x00, 0x26, 0x00, 0x00, 0x27, 0x00, 0x00, 0x28, 0x00, 0x00, 0x29, 0x00, 0x00, 0x2A,
-    0x00, 0x00, 0x2B, 0x00, 0x00, 0x2C, 0x00, 0x00, 0x2D, 0x00,
-];
 
 fn longest() -> Text {
     Text::of(&LONGEST)
@@ -192,61 +163,34 @@ fn add_named(rt: &impl Abort, profile: &mut Profile, number: u8) {
 }
 
 /// What the devices of the greatest profile reply, with the last personality.
-const GREATEST: &[Step<'static>] = &[
-    (Set, 0, 0x00E0, &[8], Reply(&[])),
-    (Get, 0, 0x0031, &[0x90, 0x08], Reply(&LONGEST)),
-    (Get, 0, 0x0050, &[], Reply(&rows::AT_ROOT)),
-    (
-        Get,
-        0,
-        0x0060,
-        &[],
-        Reply(&[1, 0, 0, 0x11, 1, 2, 0, 0, 1, 0, 0, 46, 8, 8, 0, 1, 2, 0, 8]),
-    ),
-    (Get, 0, 0x0080, &[], Reply(&LONGEST)),
-    (Get, 0, 0x00A0, &[], Reply(b"endeadaeafagahai")),
-    (Get, 0, 0x00C2, &[], Reply(&LONGEST)),
-    (
-        Get,
-        0,
-        0x00E1,
-        &[8],
-        Reply(b"\x08\0\x2ETTTTTTTTTTTTTTTTTTTTTTTTTTTTTTTT"),
-    ),
-    (Get, 0, 0x0120, &[], Reply(&INFOS)),
-    (
-        Get,
-        0,
-        0x0121,
-        &[0, 45],
-        Reply(b"\0\x2DTTTTTTTTTTTTTTTTTTTTTTTTTTTTTTTT"),
-    ),
-    (Get, 0, 0x0122, &[], Reply(&DEFAULTS)),
-    (
-        Get,
-        0,
-        0x0200,
-        &[7],
-        Reply(b"\x07\0\0\0\0\0\0\0\0\0\0\0\0TTTTTTTTTTTTTTTTTTTTTTTTTTTTTTTT"),
-    ),
-    (
-        Get,
-        0,
-        0x1021,
-        &[8],
-        Reply(b"\x08TTTTTTTTTTTTTTTTTTTTTTTTTTTTTTTT"),
-    ),
-    (
-        Get,
-        512,
-        0x0060,
-        &[],
-        Reply(&[1, 0, 0, 0x12, 1, 2, 0, 0, 1, 0, 0, 1, 1, 1, 0, 1, 2, 0, 0]),
-    ),
-    (Get, 513, 0x0060, &[], Refuse(SubDeviceOutOfRange)),
-];
+const GREATEST: &str = "
+set 0000 00E0 08 = ack
+get 0000 0031 90 08 = ack 'TTTTTTTTTTTTTTTTTTTTTTTTTTTTTTTT'
+get 0000 0060 = ack 01 00 00 11 01 02 00 00 01 00 00 2E 08 08 00 01 02 00 08
+get 0000 0080 = ack 'TTTTTTTTTTTTTTTTTTTTTTTTTTTTTTTT'
+get 0000 00A0 = ack 'endeadaeafagahai'
+get 0000 00C2 = ack 'TTTTTTTTTTTTTTTTTTTTTTTTTTTTTTTT'
+get 0000 00E1 08 = ack 08 00 '.TTTTTTTTTTTTTTTTTTTTTTTTTTTTTTTT'
+get 0000 0120 = ack 00 00 00 00 01 00 01 00 01 01 00 02 00 01 02 00 03 01 00 01 00 04 01 00 02 00 05 00 00 00 00 06 00 00 00 00 07 \
+    00 00 00 00 08 00 00 00 00 09 00 00 00 00 0A 00 00 00 00 0B 00 00 00 00 0C 00 00 00 00 0D 00 00 00 00 0E 00 00 00 00 0F 00 00 00 \
+    00 10 00 00 00 00 11 00 00 00 00 12 00 00 00 00 13 00 00 00 00 14 00 00 00 00 15 00 00 00 00 16 00 00 00 00 17 00 00 00 00 18 00 \
+    00 00 00 19 00 00 00 00 1A 00 00 00 00 1B 00 00 00 00 1C 00 00 00 00 1D 00 00 00 00 1E 00 00 00 00 1F 00 00 00 00 20 00 00 00 00 \
+    21 00 00 00 00 22 00 00 00 00 23 00 00 00 00 24 00 00 00 00 25 00 00 00 00 26 00 00 00 00 27 00 00 00 00 28 00 00 00 00 29 00 00 \
+    00 00 2A 00 00 00 00 2B 00 00 00 00 2C 00 00 00 00 2D 00 00 00
+get 0000 0121 00 2D = ack 00 '-TTTTTTTTTTTTTTTTTTTTTTTTTTTTTTTT'
+get 0000 0122 = ack 00 00 00 00 01 80 00 02 80 00 03 00 00 04 00 00 05 00 00 06 00 00 07 00 00 08 00 00 09 00 00 0A 00 00 0B 00 00 \
+    0C 00 00 0D 00 00 0E 00 00 0F 00 00 10 00 00 11 00 00 12 00 00 13 00 00 14 00 00 15 00 00 16 00 00 17 00 00 18 00 00 19 00 00 1A \
+    00 00 1B 00 00 1C 00 00 1D 00 00 1E 00 00 1F 00 00 20 00 00 21 00 00 22 00 00 23 00 00 24 00 00 25 00 00 26 00 00 27 00 00 28 00 \
+    00 29 00 00 2A 00 00 2B 00 00 2C 00 00 2D 00
+get 0000 0200 07 = ack 07 00 00 00 00 00 00 00 00 00 00 00 00 'TTTTTTTTTTTTTTTTTTTTTTTTTTTTTTTT'
+get 0000 1021 08 = ack 08 'TTTTTTTTTTTTTTTTTTTTTTTTTTTTTTTT'
+get 0200 0060 = ack 01 00 00 12 01 02 00 00 01 00 00 01 01 01 00 01 02 00 00
+get 0201 0060 = nack sub-device out of range
+";
 
 #[test]
 fn the_greatest_profile_is_read_whole(rt: HostRuntime) {
-    plays(&rt, &mut made(&rt, rt.alloc(), greatest(&rt)), GREATEST);
+    let mut devices = made(&rt, rt.alloc(), greatest(&rt));
+    plays(&rt, &mut devices, GREATEST);
+    plays(&rt, &mut devices, rows::AT_ROOT);
 }

@@ -45,89 +45,86 @@ fn rack(rt: &impl Abort, alloc: Global, pin_rights: Rights) -> Devices {
     made(rt, alloc, profile)
 }
 
-const STEPS: &[Step<'static>] = &[
-    (Get, 0, 0x0640, &[], Reply(&[0x01, 0xB7])),
-    (Get, 0, 0x0641, &[], Reply(&[0, 2])),
-    (Get, 0, 0x0642, &[1], Reply(b"\x01Address")),
-    (Get, 0, 0x0642, &[0], Refuse(DataOutOfRange)),
-    (Get, 0, 0x0642, &[3], Refuse(DataOutOfRange)),
-    // Unlocked.
-    (Set, 0, 0x00F0, &[0, 2], Reply(&[])),
-    (Set, 0, 0x0440, &[1], Reply(&[])),
-    // Another PIN, a state that isn't there, and data of another length.
-    (Set, 0, 0x0641, &[0x01, 0xB8, 1], Refuse(DataOutOfRange)),
-    (Set, 0, 0x0641, &[0x01, 0xB7, 3], Refuse(DataOutOfRange)),
-    (Set, 0, 0x0641, &[1], Refuse(FormatError)),
-    (Get, 0, 0x0641, &[], Reply(&[0, 2])),
-    (Set, 0, 0x0641, &[0x01, 0xB7, 1], Reply(&[])),
-    (Get, 0, 0x0641, &[], Reply(&[1, 2])),
-    (Set, 0, 0x00F0, &[0, 3], Refuse(WriteProtect)),
-    (Get, 0, 0x00F0, &[], Reply(&[0, 2])),
-    (Set, 1, 0x00F0, &[0, 3], Refuse(WriteProtect)),
-    (Set, 0xFFFF, 0x00F0, &[0, 3], Refuse(WriteProtect)),
-    (Set, 0, 0x0440, &[2], Reply(&[])),
-    (Set, 0, 0x0641, &[0x01, 0xB7, 2], Reply(&[])),
-    (Set, 0, 0x0440, &[3], Refuse(WriteProtect)),
-    (Get, 0, 0x0440, &[], Reply(&[2])),
-    (Set, 0, 0x0404, &[1], Refuse(WriteProtect)),
-    // What a job carries out is never locked.
-    (Set, 0, 0x0403, &[1], Start(1)),
-    // A new PIN, with another one than that which is kept; one that is none; and the next one.
-    (Set, 0, 0x0640, &[0, 7, 0x01, 0xB8], Refuse(DataOutOfRange)),
-    (
-        Set,
-        0,
-        0x0640,
-        &[0x27, 0x11, 0x01, 0xB7],
-        Refuse(FormatError),
-    ),
-    (Set, 0, 0x0640, &[0x27, 0x0F, 0x01, 0xB7], Reply(&[])),
-    (Get, 0, 0x0640, &[], Reply(&[0x27, 0x0F])),
-    (Set, 0, 0x0641, &[0x01, 0xB7, 0], Refuse(DataOutOfRange)),
-    (Set, 0, 0x0641, &[0x27, 0x0F, 0], Reply(&[])),
-    (Set, 0, 0x00F0, &[0, 3], Reply(&[])),
-    (Set, 0, 0x0440, &[3], Reply(&[])),
-    (Set, 0, 0x0641, &[], Refuse(FormatError)),
-];
+const STEPS: &str = "
+get 0000 0640 = ack 01 B7
+get 0000 0641 = ack 00 02
+get 0000 0642 01 = ack 01 'Address'
+get 0000 0642 00 = nack data out of range
+get 0000 0642 03 = nack data out of range
+// Unlocked.
+set 0000 00F0 00 02 = ack
+set 0000 0440 01 = ack
+// Another PIN, a state that isn't there, and data of another length.
+set 0000 0641 01 B8 01 = nack data out of range
+set 0000 0641 01 B7 03 = nack data out of range
+set 0000 0641 01 = nack format error
+get 0000 0641 = ack 00 02
+set 0000 0641 01 B7 01 = ack
+get 0000 0641 = ack 01 02
+set 0000 00F0 00 03 = nack write protect
+get 0000 00F0 = ack 00 02
+set 0001 00F0 00 03 = nack write protect
+set FFFF 00F0 00 03 = nack write protect
+set 0000 0440 02 = ack
+set 0000 0641 01 B7 02 = ack
+set 0000 0440 03 = nack write protect
+get 0000 0440 = ack 02
+set 0000 0404 01 = nack write protect
+// What a job carries out is never locked.
+set 0000 0403 01 = job 01
+// A new PIN, with another one than that which is kept; one that is none; and the next one.
+set 0000 0640 00 07 01 B8 = nack data out of range
+set 0000 0640 27 11 01 B7 = nack format error
+set 0000 0640 27 0F 01 B7 = ack
+get 0000 0640 = ack 27 0F
+set 0000 0641 01 B7 00 = nack data out of range
+set 0000 0641 27 0F 00 = ack
+set 0000 00F0 00 03 = ack
+set 0000 0440 03 = ack
+set 0000 0641 = nack format error
+";
 
 #[test]
 fn a_lock_refuses_what_it_locks(rt: HostRuntime) {
     plays(&rt, &mut rack(&rt, rt.alloc(), Rights::Both), STEPS);
 }
 
+/// The menu may set what is locked, and the firmware may place it.
+const FREE: &str = "
+place 0000 0641 02 = ok
+set 0000 00F0 00 09 = nack write protect
+turn start 9 = taken 00F0 00 09
+place 0000 0440 09 = ok
+get 0000 00F0 = ack 00 09
+";
+
 #[test]
 fn the_menu_and_the_firmware_are_not_locked(rt: HostRuntime) {
-    let mut devices = rack(&rt, rt.alloc(), Rights::Both);
-    place_all(&rt, &mut devices, &[(0, 0x0641, &[2], Ok(()))]);
-    let refused = (Set, 0, 0x00F0, [0, 9].as_slice(), Refuse(WriteProtect));
-    plays(&rt, &mut devices, &[refused]);
-    assert!(&rt; devices.change(&Change::Start(9)).is_some());
-    place_all(&rt, &mut devices, &[(0, 0x0440, &[9], Ok(()))]);
-    plays(&rt, &mut devices, &[(Get, 0, 0x00F0, &[], Reply(&[0, 9]))]);
+    plays(&rt, &mut rack(&rt, rt.alloc(), Rights::Both), FREE);
 }
 
 /// FACTORY_DEFAULTS passes over what is locked, at the root, and sets it back once it is unlocked. The burn in time isn't set back.
-const DEFAULTS: &[Step<'static>] = &[
-    (Set, 0, 0x00F0, &[0, 9], Reply(&[])),
-    (Set, 0, 0x0404, &[2], Reply(&[])),
-    (Set, 0, 0x0600, &[1], Reply(&[])),
-    (Set, 0, 0x0641, &[0x01, 0xB7, 1], Reply(&[])),
-    (Set, 0, 0x0090, &[], Reply(&[])),
-    (Get, 0, 0x00F0, &[], Reply(&[0, 9])),
-    (Get, 0, 0x0404, &[], Reply(&[0])),
-    (Get, 0, 0x0600, &[], Reply(&[0])),
-    (Get, 0, 0x0090, &[], Reply(&[0])),
-    (Set, 0, 0x0404, &[2], Reply(&[])),
-    (Set, 0, 0x0641, &[0x01, 0xB7, 2], Reply(&[])),
-    (Set, 0, 0x0090, &[], Reply(&[])),
-    (Get, 0, 0x00F0, &[], Reply(&[0, 9])),
-    (Get, 0, 0x0404, &[], Reply(&[2])),
-    (Set, 0, 0x0641, &[0x01, 0xB7, 0], Reply(&[])),
-    (Set, 0, 0x0090, &[], Reply(&[])),
-    (Get, 0, 0x00F0, &[], Reply(&[0, 1])),
-    (Get, 0, 0x0404, &[], Reply(&[0])),
-    (Get, 0, 0x0090, &[], Reply(&[1])),
-];
+const DEFAULTS: &str = "
+set 0000 00F0 00 09 = ack
+set 0000 0404 02 = ack
+set 0000 0600 01 = ack
+set 0000 0641 01 B7 01 = ack
+set 0000 0090 = ack
+get 0000 00F0 = ack 00 09
+get 0000 0404 = ack 00
+get 0000 0600 = ack 00
+get 0000 0090 = ack 00
+set 0000 0404 02 = ack
+set 0000 0641 01 B7 02 = ack
+set 0000 0090 = ack
+get 0000 00F0 = ack 00 09
+get 0000 0404 = ack 02
+set 0000 0641 01 B7 00 = ack
+set 0000 0090 = ack
+get 0000 00F0 = ack 00 01
+get 0000 0404 = ack 00
+get 0000 0090 = ack 01
+";
 
 #[test]
 fn factory_defaults_leave_what_is_locked(rt: HostRuntime) {
@@ -176,17 +173,17 @@ fn wash(rt: &impl Abort, alloc: Global) -> Devices {
     made(rt, alloc, set_apart(rt, alloc, 1, particular))
 }
 
-const OWN_DEFAULTS: &[Step<'static>] = &[
-    (Set, 0, 0x8001, &[0x0F, 0xA0], Refuse(WriteProtect)),
-    (Set, 0, 0x0641, &[0, 0, 0], Reply(&[])),
-    (Set, 0, 0x8001, &[0x0F, 0xA0], Reply(&[])),
-    (Set, 0, 0x0641, &[0, 0, 1], Reply(&[])),
-    (Set, 0, 0x0090, &[], Reply(&[])),
-    (Get, 0, 0x8001, &[], Reply(&[0x0F, 0xA0])),
-    (Set, 0, 0x0641, &[0, 0, 0], Reply(&[])),
-    (Set, 0, 0x0090, &[], Reply(&[])),
-    (Get, 0, 0x8001, &[], Reply(&[0x07, 0xD0])),
-];
+const OWN_DEFAULTS: &str = "
+set 0000 8001 0F A0 = nack write protect
+set 0000 0641 00 00 00 = ack
+set 0000 8001 0F A0 = ack
+set 0000 0641 00 00 01 = ack
+set 0000 0090 = ack
+get 0000 8001 = ack 0F A0
+set 0000 0641 00 00 00 = ack
+set 0000 0090 = ack
+get 0000 8001 = ack 07 D0
+";
 
 #[test]
 fn factory_defaults_leave_an_own_parameter_that_is_locked(rt: HostRuntime) {
@@ -194,17 +191,17 @@ fn factory_defaults_leave_an_own_parameter_that_is_locked(rt: HostRuntime) {
 }
 
 /// RECORD_SENSORS would write the values of sensors.
-const SENSORS: &[Step<'static>] = &[
-    (Set, 0, 0x0202, &[0xFF], Reply(&[])),
-    (Set, 0, 0x0641, &[0x01, 0xB7, 2], Reply(&[])),
-    (Set, 0, 0x0201, &[0], Refuse(WriteProtect)),
-    (Set, 0, 0x0202, &[0], Refuse(WriteProtect)),
-    (Set, 0, 0x0202, &[], Refuse(WriteProtect)),
-    (Get, 0, 0x0202, &[], Refuse(UnsupportedCommandClass)),
-    (Set, 1, 0x0202, &[0], Refuse(UnknownPid)),
-    (Set, 0, 0x0641, &[0x01, 0xB7, 0], Reply(&[])),
-    (Set, 0, 0x0202, &[0xFF], Reply(&[])),
-];
+const SENSORS: &str = "
+set 0000 0202 FF = ack
+set 0000 0641 01 B7 02 = ack
+set 0000 0201 00 = nack write protect
+set 0000 0202 00 = nack write protect
+set 0000 0202 = nack write protect
+get 0000 0202 = nack unsupported command class
+set 0001 0202 00 = nack unknown PID
+set 0000 0641 01 B7 00 = ack
+set 0000 0202 FF = ack
+";
 
 #[test]
 fn what_is_locked_is_not_recorded(rt: HostRuntime) {
@@ -213,23 +210,22 @@ fn what_is_locked_is_not_recorded(rt: HostRuntime) {
 }
 
 /// The PIN has a SET alone: each PIN that is accepted opens, and none before it.
-const UNREAD: &[Step<'static>] = &[
-    (Get, 0, 0x0640, &[], Refuse(UnsupportedCommandClass)),
-    (Set, 0, 0x0641, &[0x01, 0xB7, 1], Reply(&[])),
-    (Set, 0, 0x00F0, &[0, 2], Refuse(WriteProtect)),
-    (Set, 0, 0x0640, &[0x04, 0xD2, 0x01, 0xB7], Reply(&[])),
-    (Set, 0, 0x0641, &[0x01, 0xB7, 0], Refuse(DataOutOfRange)),
-    (Set, 0, 0x0641, &[0x04, 0xD2, 0], Reply(&[])),
-    (Set, 0, 0x00F0, &[0, 2], Reply(&[])),
-    (Set, 0, 0x0640, &[0x27, 0x0F, 0x04, 0xD2], Reply(&[])),
-    (Set, 0, 0x0641, &[0x27, 0x0F, 2], Reply(&[])),
-];
+const UNREAD: &str = "
+get 0000 0640 = nack unsupported command class
+set 0000 0641 01 B7 01 = ack
+set 0000 00F0 00 02 = nack write protect
+set 0000 0640 04 D2 01 B7 = ack
+set 0000 0641 01 B7 00 = nack data out of range
+set 0000 0641 04 D2 00 = ack
+set 0000 00F0 00 02 = ack
+set 0000 0640 27 0F 04 D2 = ack
+set 0000 0641 27 0F 02 = ack
+own 0640 = 27 0F
+";
 
 #[test]
 fn a_pin_that_cannot_be_read_opens(rt: HostRuntime) {
-    let mut devices = rack(&rt, rt.alloc(), Rights::Set);
-    plays(&rt, &mut devices, UNREAD);
-    assert_eq!(&rt; devices.own_value(0x0640), Some(b"\x27\x0F".as_slice()));
+    plays(&rt, &mut rack(&rt, rt.alloc(), Rights::Set), UNREAD);
 }
 
 /// What LOCK_PIN and LOCK_STATE have, a parameter that is locked, and whether the profile is good.

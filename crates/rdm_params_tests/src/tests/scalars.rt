@@ -5,170 +5,166 @@ use super::*;
 pub(super) const RUNS: &[Run] = &[(0, UNKNOWN)];
 
 /// Each row: what it shows at the start.
-const SHOWN: &[Step<'static>] = &[
-    (Get, 0, 0x0033, &[], Reply(&[2])),
-    (Get, 0, 0x00B0, &[], Reply(b"en")),
-    (Get, 0, 0x00C1, &[], Reply(&[0, 0, 0, 1])),
-    (Get, 0, 0x00F0, &[], Reply(&[0, 1])),
-    (Get, 0, 0x0400, &[], Reply(&[0, 0, 0, 0])),
-    (Get, 0, 0x0401, &[], Reply(&[0, 0, 0, 0])),
-    (Get, 0, 0x0402, &[], Reply(&[0, 0, 0, 0])),
-    (Get, 0, 0x0403, &[], Reply(&[0])),
-    (Get, 0, 0x0404, &[], Reply(&[0])),
-    (Get, 0, 0x0405, &[], Reply(&[0, 0, 0, 0])),
-    (Get, 0, 0x0500, &[], Reply(&[0])),
-    (Get, 0, 0x0501, &[], Reply(&[0xFF])),
-    (Get, 0, 0x0600, &[], Reply(&[0])),
-    (Get, 0, 0x0601, &[], Reply(&[0])),
-    (Get, 0, 0x0602, &[], Reply(&[0])),
-    (Get, 0, 0x1000, &[], Reply(&[0])),
-    (Get, 0, 0x1010, &[], Reply(&[0xFF])),
-    (Get, 0, 0x1020, &[], Reply(&[0])),
-    (Get, 0, 0x1031, &[], Reply(&[0, 0, 0])),
-];
+const SHOWN: &str = "
+get 0000 0033 = ack 02
+get 0000 00B0 = ack 'en'
+get 0000 00C1 = ack 00 00 00 01
+get 0000 00F0 = ack 00 01
+get 0000 0400 = ack 00 00 00 00
+get 0000 0401 = ack 00 00 00 00
+get 0000 0402 = ack 00 00 00 00
+get 0000 0403 = ack 00
+get 0000 0404 = ack 00
+get 0000 0405 = ack 00 00 00 00
+get 0000 0500 = ack 00
+get 0000 0501 = ack FF
+get 0000 0600 = ack 00
+get 0000 0601 = ack 00
+get 0000 0602 = ack 00
+get 0000 1000 = ack 00
+get 0000 1010 = ack FF
+get 0000 1020 = ack 00
+get 0000 1031 = ack 00 00 00
+";
+
+/// The same rows, and why a SET of another length is refused.
+const ROWS: &str = "<pid> | <reason>
+0033 | format error
+00B0 | format error
+00C1 | unsupported command class
+00F0 | format error
+0400 | format error
+0401 | format error
+0402 | format error
+0403 | format error
+0404 | format error
+0405 | format error
+0500 | format error
+0501 | format error
+0600 | format error
+0601 | format error
+0602 | format error
+1000 | format error
+1010 | format error
+1020 | format error
+1031 | format error";
+
+/// A GET of a row has no data, and there are no sub-devices.
+const IS_SHOWN_WITHOUT_DATA: &str = "
+get 0000 <pid> 00 = nack format error
+get 0001 <pid> = nack sub-device out of range
+get FFFF <pid> = nack sub-device out of range
+";
 
 #[test]
 fn every_row_shows_its_first_value(rt: HostRuntime) {
     let mut devices = demo(&rt, rt.alloc(), 0);
-    let shown = SHOWN;
-    plays(&rt, &mut devices, shown);
-    for (_, _, pid, _, _) in shown {
-        is_shown_without_data(&rt, &mut devices, *pid);
-    }
-}
-
-/// A GET of a row has no data, and there are no sub-devices.
-fn is_shown_without_data(rt: &impl Abort, devices: &mut Devices, pid: u16) {
-    let refused: [Step<'_>; 3] = [
-        (Get, 0, pid, &[0], Refuse(FormatError)),
-        (Get, 1, pid, &[], Refuse(SubDeviceOutOfRange)),
-        (Get, 0xFFFF, pid, &[], Refuse(SubDeviceOutOfRange)),
-    ];
-    plays(rt, devices, &refused);
+    plays(&rt, &mut devices, SHOWN);
+    plays_each(&rt, rt.alloc(), &mut devices, ROWS, IS_SHOWN_WITHOUT_DATA);
 }
 
 /// A row that takes a value: the least and the greatest.
-type Ends = (u16, &'static [u8], &'static [u8]);
+const ENDS: &str = "<pid> | <least> | <greatest>
+0033 | 00 | 04
+00B0 | 'en' | 'de'
+00F0 | 00 01 | 02 00
+0400 | 00 00 00 00 | FF FF FF FF
+0401 | 00 00 00 00 | FF FF FF FF
+0402 | 00 00 00 00 | FF FF FF FF
+0404 | 00 | 03
+0405 | 00 00 00 00 | FF FF FF FF
+0500 | 00 | 02
+0501 | 00 | FF
+0600 | 00 | 01
+0601 | 00 | 01
+0602 | 00 | 01
+1000 | 00 | 01
+1031 | 00 00 00 | 00 04 FF";
 
-const ENDS: &[Ends] = &[
-    (0x0033, &[0], &[4]),
-    (0x00B0, b"en", b"de"),
-    (0x00F0, &[0, 1], &[2, 0]),
-    (0x0400, &[0, 0, 0, 0], &[0xFF, 0xFF, 0xFF, 0xFF]),
-    (0x0401, &[0, 0, 0, 0], &[0xFF, 0xFF, 0xFF, 0xFF]),
-    (0x0402, &[0, 0, 0, 0], &[0xFF, 0xFF, 0xFF, 0xFF]),
-    (0x0404, &[0], &[3]),
-    (0x0405, &[0, 0, 0, 0], &[0xFF, 0xFF, 0xFF, 0xFF]),
-    (0x0500, &[0], &[2]),
-    (0x0501, &[0], &[0xFF]),
-    (0x0600, &[0], &[1]),
-    (0x0601, &[0], &[1]),
-    (0x0602, &[0], &[1]),
-    (0x1000, &[0], &[1]),
-    (0x1031, &[0, 0, 0], &[0, 4, 0xFF]),
-];
+/// A row takes the ends of its range.
+const TAKES_ENDS: &str = "
+set 0000 <pid> <least> = ack
+get 0000 <pid> = ack <least>
+set 0000 <pid> <greatest> = ack
+get 0000 <pid> = ack <greatest>
+set 0001 <pid> <greatest> = nack sub-device out of range
+set FFFF <pid> <greatest> = nack sub-device out of range
+";
+
+/// No SET changed what another row shows.
+const SHOWS_GREATEST: &str = "get 0000 <pid> = ack <greatest>";
 
 #[test]
 fn every_row_takes_the_ends_of_its_range(rt: HostRuntime) {
     let mut devices = demo(&rt, rt.alloc(), 0);
-    let ends = ENDS;
-    for row in ends {
-        takes_ends(&rt, &mut devices, *row);
-    }
-    // No SET changed what another row shows.
-    for (pid, _, greatest) in ends {
-        plays(&rt, &mut devices, &[(Get, 0, *pid, &[], Reply(greatest))]);
-    }
-}
-
-/// A row takes the ends of its range.
-fn takes_ends(rt: &impl Abort, devices: &mut Devices, (pid, least, greatest): Ends) {
-    let steps: [Step<'_>; 6] = [
-        (Set, 0, pid, least, Reply(&[])),
-        (Get, 0, pid, &[], Reply(least)),
-        (Set, 0, pid, greatest, Reply(&[])),
-        (Get, 0, pid, &[], Reply(greatest)),
-        (Set, 1, pid, greatest, Refuse(SubDeviceOutOfRange)),
-        (Set, 0xFFFF, pid, greatest, Refuse(SubDeviceOutOfRange)),
-    ];
-    plays(rt, devices, &steps);
+    plays_each(&rt, rt.alloc(), &mut devices, ENDS, TAKES_ENDS);
+    plays_each(&rt, rt.alloc(), &mut devices, ENDS, SHOWS_GREATEST);
 }
 
 /// SETs of values that are past the range of a row.
-const PAST: &[Step<'static>] = &[
-    (Set, 0, 0x0033, &[1], Refuse(DataOutOfRange)),
-    (Set, 0, 0x0033, &[5], Refuse(DataOutOfRange)),
-    (Set, 0, 0x00B0, b"eo", Refuse(DataOutOfRange)),
-    (Set, 0, 0x00B0, b"em", Refuse(DataOutOfRange)),
-    (Set, 0, 0x00F0, &[0, 0], Refuse(DataOutOfRange)),
-    (Set, 0, 0x00F0, &[2, 1], Refuse(DataOutOfRange)),
-    (Set, 0, 0x0403, &[4], Refuse(DataOutOfRange)),
-    (Set, 0, 0x0403, &[0xFF], Refuse(DataOutOfRange)),
-    (Set, 0, 0x0404, &[4], Refuse(DataOutOfRange)),
-    (Set, 0, 0x0500, &[3], Refuse(DataOutOfRange)),
-    (Set, 0, 0x0600, &[2], Refuse(DataOutOfRange)),
-    (Set, 0, 0x0601, &[2], Refuse(DataOutOfRange)),
-    (Set, 0, 0x0602, &[2], Refuse(DataOutOfRange)),
-    (Set, 0, 0x1000, &[2], Refuse(DataOutOfRange)),
-    (Set, 0, 0x1010, &[3], Refuse(DataOutOfRange)),
-    (Set, 0, 0x1010, &[0xFE], Refuse(DataOutOfRange)),
-    (Set, 0, 0x1020, &[3], Refuse(DataOutOfRange)),
-    (Set, 0, 0x1020, &[0xFE], Refuse(DataOutOfRange)),
-    (Set, 0, 0x1031, &[0, 5, 0x80], Refuse(DataOutOfRange)),
-    (Set, 0, 0x1031, &[0xFF, 0xFE, 0], Refuse(DataOutOfRange)),
-    (Set, 0, 0x1031, &[1, 0, 0], Refuse(DataOutOfRange)),
-];
+const PAST: &str = "
+set 0000 0033 01 = nack data out of range
+set 0000 0033 05 = nack data out of range
+set 0000 00B0 'eo' = nack data out of range
+set 0000 00B0 'em' = nack data out of range
+set 0000 00F0 00 00 = nack data out of range
+set 0000 00F0 02 01 = nack data out of range
+set 0000 0403 04 = nack data out of range
+set 0000 0403 FF = nack data out of range
+set 0000 0404 04 = nack data out of range
+set 0000 0500 03 = nack data out of range
+set 0000 0600 02 = nack data out of range
+set 0000 0601 02 = nack data out of range
+set 0000 0602 02 = nack data out of range
+set 0000 1000 02 = nack data out of range
+set 0000 1010 03 = nack data out of range
+set 0000 1010 FE = nack data out of range
+set 0000 1020 03 = nack data out of range
+set 0000 1020 FE = nack data out of range
+set 0000 1031 00 05 80 = nack data out of range
+set 0000 1031 FF FE 00 = nack data out of range
+set 0000 1031 01 00 00 = nack data out of range
+";
 
 /// SETs of another length than the row's.
-const ANOTHER_LENGTH: &[Step<'static>] = &[
-    (Set, 0, 0x00B0, b"e", Refuse(FormatError)),
-    (Set, 0, 0x0400, &[0, 0, 0], Refuse(FormatError)),
-    (Set, 0, 0x1031, &[0, 5], Refuse(FormatError)),
-];
+const ANOTHER_LENGTH: &str = "
+set 0000 00B0 'e' = nack format error
+set 0000 0400 00 00 00 = nack format error
+set 0000 1031 00 05 = nack format error
+";
+
+/// A row takes neither no data nor five bytes.
+const HAS_LENGTH: &str = "
+set 0000 <pid> = nack <reason>
+set 0000 <pid> EE EE EE EE EE = nack <reason>
+";
 
 #[test]
 fn every_row_refuses_another_length(rt: HostRuntime) {
     let mut devices = demo(&rt, rt.alloc(), 0);
-    let shown = SHOWN;
-    for (_, _, pid, _, _) in shown {
-        has_length(&rt, &mut devices, *pid);
-    }
+    plays_each(&rt, rt.alloc(), &mut devices, ROWS, HAS_LENGTH);
     plays(&rt, &mut devices, ANOTHER_LENGTH);
-    plays(&rt, &mut devices, shown);
-}
-
-/// A row takes neither no data nor five bytes.
-fn has_length(rt: &impl Abort, devices: &mut Devices, pid: u16) {
-    let reason = if pid == 0x00C1 {
-        UnsupportedCommandClass
-    } else {
-        FormatError
-    };
-    let refused: [Step<'_>; 2] = [
-        (Set, 0, pid, &[], Refuse(reason)),
-        (Set, 0, pid, &[0xEE, 0xEE, 0xEE, 0xEE, 0xEE], Refuse(reason)),
-    ];
-    plays(rt, devices, &refused);
+    plays(&rt, &mut devices, SHOWN);
 }
 
 /// Parameters that aren't in the table.
-const UNKNOWN: &[Step<'static>] = &[
-    (Set, 0, 0x0015, &[], Refuse(UnknownPid)),
-    (Get, 0, 0x0015, &[], Refuse(UnknownPid)),
-    (Get, 1, 0x0015, &[], Refuse(SubDeviceOutOfRange)),
-];
+const UNKNOWN: &str = "
+set 0000 0015 = nack unknown PID
+get 0000 0015 = nack unknown PID
+get 0001 0015 = nack sub-device out of range
+";
 
 /// Slow commands start jobs.
-const STARTED: &[Step<'static>] = &[
-    (Set, 0, 0x0403, &[0], Start(0)),
-    (Set, 0, 0x0403, &[3], Start(3)),
-    (Set, 0, 0x1010, &[0], Start(0)),
-    (Set, 0, 0x1010, &[2], Start(2)),
-    (Set, 0, 0x1010, &[0xFF], Start(0xFF)),
-    (Set, 0, 0x1020, &[0], Start(0)),
-    (Set, 0, 0x1020, &[2], Start(2)),
-    (Set, 0, 0x1020, &[0xFF], Start(0xFF)),
-];
+const STARTED: &str = "
+set 0000 0403 00 = job 00
+set 0000 0403 03 = job 03
+set 0000 1010 00 = job 00
+set 0000 1010 02 = job 02
+set 0000 1010 FF = job FF
+set 0000 1020 00 = job 00
+set 0000 1020 02 = job 02
+set 0000 1020 FF = job FF
+";
 
 #[test]
 fn neither_refusals_nor_slow_commands_change_a_row(rt: HostRuntime) {
@@ -176,18 +172,18 @@ fn neither_refusals_nor_slow_commands_change_a_row(rt: HostRuntime) {
     changes_nothing(&rt, rt.alloc(), STARTED);
 }
 
-/// After these steps each row shows its first value.
-fn changes_nothing(rt: &impl Abort, alloc: Global, steps: &[Step<'_>]) {
+/// After these rows each row shows its first value.
+fn changes_nothing(rt: &impl Abort, alloc: Global, rows: &str) {
     let mut devices = demo(rt, alloc, 0);
-    plays(rt, &mut devices, steps);
+    plays(rt, &mut devices, rows);
     plays(rt, &mut devices, SHOWN);
 }
 
 /// Without slots there is no start address.
-const NO_SLOTS: &[Step<'static>] = &[
-    (Get, 0, 0x00F0, &[], Reply(&[0xFF, 0xFF])),
-    (Set, 0, 0x00F0, &[0, 1], Refuse(DataOutOfRange)),
-];
+const NO_SLOTS: &str = "
+get 0000 00F0 = ack FF FF
+set 0000 00F0 00 01 = nack data out of range
+";
 
 #[test]
 fn without_slots_there_is_no_start_address(rt: HostRuntime) {
@@ -199,12 +195,12 @@ fn without_slots_there_is_no_start_address(rt: HostRuntime) {
 }
 
 /// Without presets there are off and all.
-const NO_PRESETS: &[Step<'static>] = &[
-    (Set, 0, 0x1031, &[0, 0, 7], Reply(&[])),
-    (Set, 0, 0x1031, &[0xFF, 0xFF, 7], Reply(&[])),
-    (Get, 0, 0x1031, &[], Reply(&[0xFF, 0xFF, 7])),
-    (Set, 0, 0x1031, &[0, 1, 7], Refuse(DataOutOfRange)),
-];
+const NO_PRESETS: &str = "
+set 0000 1031 00 00 07 = ack
+set 0000 1031 FF FF 07 = ack
+get 0000 1031 = ack FF FF 07
+set 0000 1031 00 01 07 = nack data out of range
+";
 
 #[test]
 fn without_presets_there_are_off_and_all(rt: HostRuntime) {

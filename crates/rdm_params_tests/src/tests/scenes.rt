@@ -14,160 +14,82 @@ fn rack(rt: &impl Abort, alloc: Global) -> Devices {
     made(rt, alloc, with_own(rt, alloc, 1, own))
 }
 
-const STEPS: &[Step<'static>] = &[
-    (Get, 0, 0x1042, &[0, 1], Reply(&[0, 1, 0, 0, 0, 0, 0, 0, 2])),
-    (Get, 0, 0x1042, &[0, 2], Reply(&[0, 2, 0, 0, 0, 0, 0, 0, 0])),
-    (Get, 0, 0x1042, &[0, 0], Refuse(DataOutOfRange)),
-    (Get, 0, 0x1042, &[0, 5], Refuse(DataOutOfRange)),
-    (Get, 0, 0x1042, &[0xFF, 0xFF], Refuse(DataOutOfRange)),
-    (Get, 0, 0x1042, &[], Refuse(FormatError)),
-    (Get, 0, 0x1042, &[0, 1, 0], Refuse(FormatError)),
-    // Up, down and wait time of scene 2, which is then programmed.
-    (Set, 0, 0x1042, &[0, 2, 0, 10, 0, 20, 0, 30, 0], Reply(&[])),
-    (
-        Get,
-        0,
-        0x1042,
-        &[0, 2],
-        Reply(&[0, 2, 0, 10, 0, 20, 0, 30, 1]),
-    ),
-    (Get, 0, 0x1042, &[0, 3], Reply(&[0, 3, 0, 0, 0, 0, 0, 0, 0])),
-    // It is cleared, whatever its times.
-    (Set, 0, 0x1042, &[0, 2, 0, 10, 0, 20, 0, 30, 1], Reply(&[])),
-    (Get, 0, 0x1042, &[0, 2], Reply(&[0, 2, 0, 0, 0, 0, 0, 0, 0])),
-    (
-        Set,
-        0,
-        0x1042,
-        &[0, 2, 0, 10, 0, 20, 0, 30, 2],
-        Refuse(DataOutOfRange),
-    ),
-    (
-        Set,
-        0,
-        0x1042,
-        &[0, 1, 0, 10, 0, 20, 0, 30, 0],
-        Refuse(WriteProtect),
-    ),
-    (
-        Set,
-        0,
-        0x1042,
-        &[0, 1, 0, 10, 0, 20, 0, 30, 1],
-        Refuse(WriteProtect),
-    ),
-    (
-        Set,
-        0,
-        0x1042,
-        &[0, 0, 0, 10, 0, 20, 0, 30, 0],
-        Refuse(DataOutOfRange),
-    ),
-    (
-        Set,
-        0,
-        0x1042,
-        &[0, 5, 0, 10, 0, 20, 0, 30, 0],
-        Refuse(DataOutOfRange),
-    ),
-    (
-        Set,
-        0,
-        0x1042,
-        &[0, 1, 0, 10, 0, 20, 0, 30],
-        Refuse(FormatError),
-    ),
-    (
-        Set,
-        1,
-        0x1042,
-        &[0, 2, 0, 10, 0, 20, 0, 30, 0],
-        Refuse(UnknownPid),
-    ),
-];
+const STEPS: &str = "
+get 0000 1042 00 01 = ack 00 01 00 00 00 00 00 00 02
+get 0000 1042 00 02 = ack 00 02 00 00 00 00 00 00 00
+get 0000 1042 00 00 = nack data out of range
+get 0000 1042 00 05 = nack data out of range
+get 0000 1042 FF FF = nack data out of range
+get 0000 1042 = nack format error
+get 0000 1042 00 01 00 = nack format error
+// Up, down and wait time of scene 2, which is then programmed.
+set 0000 1042 00 02 00 0A 00 14 00 1E 00 = ack
+get 0000 1042 00 02 = ack 00 02 00 0A 00 14 00 1E 01
+get 0000 1042 00 03 = ack 00 03 00 00 00 00 00 00 00
+// It is cleared, whatever its times.
+set 0000 1042 00 02 00 0A 00 14 00 1E 01 = ack
+get 0000 1042 00 02 = ack 00 02 00 00 00 00 00 00 00
+set 0000 1042 00 02 00 0A 00 14 00 1E 02 = nack data out of range
+set 0000 1042 00 01 00 0A 00 14 00 1E 00 = nack write protect
+set 0000 1042 00 01 00 0A 00 14 00 1E 01 = nack write protect
+set 0000 1042 00 00 00 0A 00 14 00 1E 00 = nack data out of range
+set 0000 1042 00 05 00 0A 00 14 00 1E 00 = nack data out of range
+set 0000 1042 00 01 00 0A 00 14 00 1E = nack format error
+set 0001 1042 00 02 00 0A 00 14 00 1E 00 = nack unknown PID
+";
 
 #[test]
 fn scenes_are_programmed_and_cleared(rt: HostRuntime) {
     plays(&rt, &mut rack(&rt, rt.alloc()), STEPS);
 }
 
-use PlaceError::{Length, OutOfRange};
-
 /// The four scenes, one of which is cleared again; and what has another length, names no scene, or says neither 00 nor 01.
-const PLACED: &[Placed<'static>] = &[
-    (0, 0x1042, &[0, 1, 0, 10, 0, 20, 0, 30, 0], Ok(())),
-    (0, 0x1042, &[0, 2, 0xFF, 0xFF, 0, 5, 0, 0, 0], Ok(())),
-    (0, 0x1042, &[0, 3, 0, 1, 0, 2, 0, 3, 0], Ok(())),
-    (0, 0x1042, &[0, 4, 0, 7, 0, 8, 0, 9, 0], Ok(())),
-    (0, 0x1042, &[0, 3, 0, 1, 0, 2, 0, 3, 1], Ok(())),
-    (0, 0x1042, &[], Err(Length)),
-    (0, 0x1042, &[0, 4, 0, 0, 0, 0, 0, 0], Err(Length)),
-    (0, 0x1042, &[0, 4, 0, 0, 0, 0, 0, 0, 0, 0], Err(Length)),
-    (0, 0x1042, &[0, 0, 0, 0, 0, 0, 0, 0, 0], Err(OutOfRange)),
-    (0, 0x1042, &[0, 5, 0, 0, 0, 0, 0, 0, 0], Err(OutOfRange)),
-    (0, 0x1042, &[0, 4, 0, 0, 0, 0, 0, 0, 2], Err(OutOfRange)),
-];
+const PLACED: &str = "
+place 0000 1042 00 01 00 0A 00 14 00 1E 00 = ok
+place 0000 1042 00 02 FF FF 00 05 00 00 00 = ok
+place 0000 1042 00 03 00 01 00 02 00 03 00 = ok
+place 0000 1042 00 04 00 07 00 08 00 09 00 = ok
+place 0000 1042 00 03 00 01 00 02 00 03 01 = ok
+place 0000 1042 = length
+place 0000 1042 00 04 00 00 00 00 00 00 = length
+place 0000 1042 00 04 00 00 00 00 00 00 00 00 = length
+place 0000 1042 00 00 00 00 00 00 00 00 00 = out of range
+place 0000 1042 00 05 00 00 00 00 00 00 00 = out of range
+place 0000 1042 00 04 00 00 00 00 00 00 02 = out of range
+";
 
 /// The scene that can only be read stays so, for a SET too.
-const SHOWN: &[Step<'static>] = &[
-    (
-        Get,
-        0,
-        0x1042,
-        &[0, 1],
-        Reply(&[0, 1, 0, 10, 0, 20, 0, 30, 2]),
-    ),
-    (
-        Get,
-        0,
-        0x1042,
-        &[0, 2],
-        Reply(&[0, 2, 0xFF, 0xFF, 0, 5, 0, 0, 1]),
-    ),
-    (Get, 0, 0x1042, &[0, 3], Reply(&[0, 3, 0, 0, 0, 0, 0, 0, 0])),
-    (Get, 0, 0x1042, &[0, 4], Reply(&[0, 4, 0, 7, 0, 8, 0, 9, 1])),
-    (
-        Set,
-        0,
-        0x1042,
-        &[0, 1, 0, 10, 0, 20, 0, 30, 1],
-        Refuse(WriteProtect),
-    ),
-    (
-        Get,
-        0,
-        0x1042,
-        &[0, 1],
-        Reply(&[0, 1, 0, 10, 0, 20, 0, 30, 2]),
-    ),
-];
+const SHOWN: &str = "
+get 0000 1042 00 01 = ack 00 01 00 0A 00 14 00 1E 02
+get 0000 1042 00 02 = ack 00 02 FF FF 00 05 00 00 01
+get 0000 1042 00 03 = ack 00 03 00 00 00 00 00 00 00
+get 0000 1042 00 04 = ack 00 04 00 07 00 08 00 09 01
+set 0000 1042 00 01 00 0A 00 14 00 1E 01 = nack write protect
+get 0000 1042 00 01 = ack 00 01 00 0A 00 14 00 1E 02
+";
 
 #[test]
 fn firmware_places_scenes(rt: HostRuntime) {
     let mut devices = rack(&rt, rt.alloc());
-    place_all(&rt, &mut devices, PLACED);
+    plays(&rt, &mut devices, PLACED);
     plays(&rt, &mut devices, SHOWN);
 }
 
 /// The scene that can only be read is cleared.
-const CLEARED: &[Placed<'static>] = &[(0, 0x1042, &[0, 1, 0, 10, 0, 20, 0, 30, 1], Ok(()))];
+const CLEARED: &str = "
+place 0000 1042 00 01 00 0A 00 14 00 1E 01 = ok
+";
 
-const GONE: &[Step<'static>] = &[
-    (Get, 0, 0x1042, &[0, 1], Reply(&[0, 1, 0, 0, 0, 0, 0, 0, 0])),
-    (
-        Set,
-        0,
-        0x1042,
-        &[0, 1, 0, 10, 0, 20, 0, 30, 0],
-        Refuse(WriteProtect),
-    ),
-];
+const GONE: &str = "
+get 0000 1042 00 01 = ack 00 01 00 00 00 00 00 00 00
+set 0000 1042 00 01 00 0A 00 14 00 1E 00 = nack write protect
+";
 
 /// Firmware that clears a scene which can only be read says that there is none, and no SET makes one.
 #[test]
 fn firmware_clears_a_scene_that_can_only_be_read(rt: HostRuntime) {
     let mut devices = rack(&rt, rt.alloc());
-    place_all(&rt, &mut devices, CLEARED);
+    plays(&rt, &mut devices, CLEARED);
     plays(&rt, &mut devices, GONE);
 }
 

@@ -17,79 +17,54 @@ fn with_support(rt: &impl Abort, alloc: Global, supports: &[u8]) -> Devices {
 
 /// Sensor 0 supports nothing more than the present value, 1 the recorded one, 2 the lowest and the highest, 3 all; the other bits of 4 say
 /// nothing.
-const STEPS: &[Step<'static>] = &[
-    (Get, 0, 0x0201, &[0], Reply(&[0, 0, 25, 0, 0, 0, 0, 0, 0])),
-    (
-        Get,
-        0,
-        0x0201,
-        &[1],
-        Reply(&[1, 0, 25, 0, 0, 0, 0, 0xFF, 0xFF]),
-    ),
-    (
-        Get,
-        0,
-        0x0201,
-        &[2],
-        Reply(&[2, 0, 25, 0xFF, 0xF6, 1, 0x2C, 0, 0]),
-    ),
-    (
-        Get,
-        0,
-        0x0201,
-        &[3],
-        Reply(&[3, 0, 25, 0xFF, 0xF6, 1, 0x2C, 0xFF, 0xFF]),
-    ),
-    (Get, 0, 0x0201, &[4], Reply(&[4, 0, 25, 0, 0, 0, 0, 0, 0])),
-    (Set, 0, 0x0202, &[0], Refuse(DataOutOfRange)),
-    (Set, 0, 0x0202, &[2], Refuse(DataOutOfRange)),
-    (Set, 0, 0x0202, &[4], Refuse(DataOutOfRange)),
-    (Set, 0, 0x0202, &[5], Refuse(DataOutOfRange)),
-    (Set, 0, 0x0202, &[1], Reply(&[])),
-    (Get, 0, 0x0201, &[1], Reply(&[1, 0, 25, 0, 0, 0, 0, 0, 25])),
-    (Set, 0, 0x0202, &[0xFF], Reply(&[])),
-    (
-        Get,
-        0,
-        0x0201,
-        &[3],
-        Reply(&[3, 0, 25, 0xFF, 0xF6, 1, 0x2C, 0, 25]),
-    ),
-    (Get, 0, 0x0201, &[0], Reply(&[0, 0, 25, 0, 0, 0, 0, 0, 0])),
-    // A reset is for every sensor.
-    (Set, 0, 0x0201, &[0], Reply(&[0, 0, 25, 0, 0, 0, 0, 0, 0])),
-    (Set, 0, 0x0201, &[2], Reply(&[2, 0, 25, 0, 25, 0, 25, 0, 0])),
-    (
-        Set,
-        0,
-        0x0201,
-        &[3],
-        Reply(&[3, 0, 25, 0, 25, 0, 25, 0, 25]),
-    ),
-];
+const STEPS: &str = "
+get 0000 0201 00 = ack 00 00 19 00 00 00 00 00 00
+get 0000 0201 01 = ack 01 00 19 00 00 00 00 FF FF
+get 0000 0201 02 = ack 02 00 19 FF F6 01 2C 00 00
+get 0000 0201 03 = ack 03 00 19 FF F6 01 2C FF FF
+get 0000 0201 04 = ack 04 00 19 00 00 00 00 00 00
+set 0000 0202 00 = nack data out of range
+set 0000 0202 02 = nack data out of range
+set 0000 0202 04 = nack data out of range
+set 0000 0202 05 = nack data out of range
+set 0000 0202 01 = ack
+get 0000 0201 01 = ack 01 00 19 00 00 00 00 00 19
+set 0000 0202 FF = ack
+get 0000 0201 03 = ack 03 00 19 FF F6 01 2C 00 19
+get 0000 0201 00 = ack 00 00 19 00 00 00 00 00 00
+// A reset is for every sensor.
+set 0000 0201 00 = ack 00 00 19 00 00 00 00 00 00
+set 0000 0201 02 = ack 02 00 19 00 19 00 19 00 00
+set 0000 0201 03 = ack 03 00 19 00 19 00 19 00 19
+";
+
+/// What the firmware places at each of five sensors.
+const PLACED: &str = "
+place 0000 0201 00 00 19 FF F6 01 2C FF FF = ok
+place 0000 0201 01 00 19 FF F6 01 2C FF FF = ok
+place 0000 0201 02 00 19 FF F6 01 2C FF FF = ok
+place 0000 0201 03 00 19 FF F6 01 2C FF FF = ok
+place 0000 0201 04 00 19 FF F6 01 2C FF FF = ok
+";
 
 #[test]
 fn a_sensor_shows_0_for_what_it_does_not_support(rt: HostRuntime) {
     let mut devices = with_support(&rt, rt.alloc(), &[0, 1, 2, 3, 0xFC]);
-    for number in 0..5 {
-        let slots = [number, 0, 25, 0xFF, 0xF6, 1, 0x2C, 0xFF, 0xFF];
-        assert_eq!(&rt; devices.place(0, 0x0201, &slots), Ok(()));
-    }
+    plays(&rt, &mut devices, PLACED);
     plays(&rt, &mut devices, STEPS);
 }
 
 /// Where none records, all of them don't.
+const NONE_RECORDS: &str = "
+set 0000 0202 FF = nack data out of range
+set 0000 0201 FF = ack FF 00 00 00 00 00 00 00 00
+";
+
 #[test]
 fn no_sensor_records(rt: HostRuntime) {
-    let steps: [Step; 2] = [
-        (Set, 0, 0x0202, &[0xFF], Refuse(DataOutOfRange)),
-        (
-            Set,
-            0,
-            0x0201,
-            &[0xFF],
-            Reply(&[0xFF, 0, 0, 0, 0, 0, 0, 0, 0]),
-        ),
-    ];
-    plays(&rt, &mut with_support(&rt, rt.alloc(), &[0, 2]), &steps);
+    plays(
+        &rt,
+        &mut with_support(&rt, rt.alloc(), &[0, 2]),
+        NONE_RECORDS,
+    );
 }

@@ -11,67 +11,34 @@ pub(super) const FAILED: Outcome = Outcome::Failed {
     v2: 0,
 };
 
-/// A job ends so, as it can, and its message is of this class and has these data.
-pub(super) fn ends(
-    rt: &impl Abort,
-    devices: &mut Devices,
-    work: &Work,
-    outcome: Outcome,
-    class: u8,
-    bytes: &[u8],
-) {
-    let fitting = fits(work, &outcome);
-    assert!(rt; fitting, "{work:?}");
-    if fitting {
-        let told = devices.commit(work, outcome);
-        assert_eq!(rt; told, message(rt, class, work.pid, work.sub, bytes));
-    }
-}
+/// Slow SETs: the sub-device and the PID, the byte that is set, and what a GET shows before the job is done and after it.
+const SETS: &str = "<sub> | <pid> | <byte> | <before> | <after>
+0000 | 0403 | 02 | 00 | 02
+0001 | 0403 | 03 | 00 | 03
+0000 | 1010 | 01 | FF | 01
+0001 | 1010 | 00 | FF | 00
+0000 | 1020 | 02 | 00 | 01";
 
-/// Slow SETs: the PID, the sub-device, the byte that is set, and what a GET shows before the job is done and after it.
-const SETS: &[(u16, u16, u8, u8, u8)] = &[
-    (0x0403, 0, 2, 0, 2),
-    (0x0403, 1, 3, 0, 3),
-    (0x1010, 0, 1, 0xFF, 1),
-    (0x1010, 1, 0, 0xFF, 0),
-    (0x1020, 0, 2, 0, 1),
-];
+/// A value is the one before the job is done, and then the other, also if another job fails.
+const CHANGES_WHEN_DONE: &str = "
+end set <sub> <pid> <byte> failed = 21 <before>
+get <sub> <pid> = ack <before>
+end set <sub> <pid> <byte> done = 31
+get <sub> <pid> = ack <after>
+end set <sub> <pid> <byte> failed = 21 <after>
+";
 
 /// What another sub-device shows after them.
-const ANOTHER: &[Step<'static>] = &[
-    (Get, 2, 0x0403, &[], Reply(&[0])),
-    (Get, 2, 0x1010, &[], Reply(&[0xFF])),
-];
+const ANOTHER: &str = "
+get 0002 0403 = ack 00
+get 0002 1010 = ack FF
+";
 
 #[test]
 fn a_slow_set_changes_its_device_when_it_is_done(rt: HostRuntime) {
     let mut devices = demo(&rt, rt.alloc(), 2);
-    for (pid, sub, arg, before, after) in SETS {
-        let work = work_of(Set, *sub, *pid, *arg);
-        changes_when_done(&rt, &mut devices, &work, *before, *after);
-    }
+    plays_each(&rt, rt.alloc(), &mut devices, SETS, CHANGES_WHEN_DONE);
     plays(&rt, &mut devices, ANOTHER);
-}
-
-/// A value is the one before the job is done, and then the other, also if another job fails.
-fn changes_when_done(rt: &impl Abort, devices: &mut Devices, work: &Work, before: u8, after: u8) {
-    let (sub, pid) = (work.sub, work.pid);
-    ends(rt, devices, work, FAILED, 0x21, &[before]);
-    plays(rt, devices, &[(Get, sub, pid, &[], Reply(&[before]))]);
-    ends(rt, devices, work, Outcome::Done, 0x31, &[]);
-    plays(rt, devices, &[(Get, sub, pid, &[], Reply(&[after]))]);
-    ends(rt, devices, work, FAILED, 0x21, &[after]);
-}
-
-/// A sensor, how its measurement ends, and what is told.
-pub(super) type Measured = (u8, Outcome, &'static [u8]);
-
-/// Sensors measure, one after another.
-pub(super) fn measures(rt: &impl Abort, devices: &mut Devices, rows: &[Measured]) {
-    for (arg, outcome, bytes) in rows {
-        let work = work_of(Get, 0, 0x0201, *arg);
-        ends(rt, devices, &work, *outcome, 0x21, bytes);
-    }
 }
 
 /// A work of a command.
@@ -84,35 +51,23 @@ fn work_of(verb: Verb, sub: u16, pid: u16, arg: u8) -> Work {
     }
 }
 
-const MEASURED: &[Measured] = &[
-    (
-        1,
-        Outcome::Reading(-5),
-        &[1, 0xFF, 0xFB, 0xFF, 0xFB, 0, 0, 0, 0],
-    ),
-    (
-        1,
-        Outcome::Reading(25),
-        &[1, 0, 25, 0xFF, 0xFB, 0, 25, 0, 0],
-    ),
-    (1, FAILED, &[1, 0, 25, 0xFF, 0xFB, 0, 25, 0, 0]),
-    (0, FAILED, &[0, 0, 0, 0, 0, 0, 0, 0, 0]),
-    (0, Outcome::Reading(25), &[0, 0, 25, 0, 0, 0, 25, 0, 0]),
-];
+const MEASURED: &str = "
+end get 0000 0201 01 reading -5 = 21 01 FF FB FF FB 00 00 00 00
+end get 0000 0201 01 reading 25 = 21 01 00 19 FF FB 00 19 00 00
+end get 0000 0201 01 failed = 21 01 00 19 FF FB 00 19 00 00
+end get 0000 0201 00 failed = 21 00 00 00 00 00 00 00 00 00
+end get 0000 0201 00 reading 25 = 21 00 00 19 00 00 00 19 00 00
+";
 
 /// Then all that the sensor shows is set to its present value.
-const RESET: &[Step<'static>] = &[(
-    Set,
-    0,
-    0x0201,
-    &[1],
-    Reply(&[1, 0, 25, 0, 25, 0, 25, 0, 25]),
-)];
+const RESET: &str = "
+set 0000 0201 01 = ack 01 00 19 00 19 00 19 00 19
+";
 
 #[test]
 fn a_sensor_shows_what_it_measured(rt: HostRuntime) {
     let mut devices = demo(&rt, rt.alloc(), 0);
-    measures(&rt, &mut devices, MEASURED);
+    plays(&rt, &mut devices, MEASURED);
     plays(&rt, &mut devices, RESET);
 }
 
@@ -245,21 +200,17 @@ fn is_of(rt: &impl Abort, devices: &Devices, work: &Work, worker: u8) {
 }
 
 /// What sensor 1 shows.
-const SHOWN: &[Placed<'static>] = &[(0, 0x0201, &[1, 0, 25, 0xFF, 0xF6, 1, 0x2C, 0, 0], Ok(()))];
+const SHOWN: &str = "
+place 0000 0201 01 00 19 FF F6 01 2C 00 00 = ok
+";
 
 /// Sensor 1 is answered at once, sensor 0 isn't.
-const QUICK: &[Step<'static>] = &[
-    (Get, 0, 0x0201, &[0], Start(0)),
-    (
-        Get,
-        0,
-        0x0201,
-        &[1],
-        Reply(&[1, 0, 25, 0xFF, 0xF6, 1, 0x2C, 0, 0]),
-    ),
-    (Get, 0, 0x0201, &[2], Refuse(DataOutOfRange)),
-    (Set, 0, 0x0403, &[1], Start(1)),
-];
+const QUICK: &str = "
+get 0000 0201 00 = job 00
+get 0000 0201 01 = ack 01 00 19 FF F6 01 2C 00 00
+get 0000 0201 02 = nack data out of range
+set 0000 0403 01 = job 01
+";
 
 #[test]
 fn a_sensor_is_answered_at_once_with_what_was_placed(rt: HostRuntime) {
@@ -268,28 +219,28 @@ fn a_sensor_is_answered_at_once_with_what_was_placed(rt: HostRuntime) {
         sensor.at_once = true;
     }
     let mut devices = made(&rt, rt.alloc(), profile);
-    place_all(&rt, &mut devices, SHOWN);
+    plays(&rt, &mut devices, SHOWN);
     plays(&rt, &mut devices, QUICK);
 }
 
 /// Two parameters ask for what waits.
-const ASKED: &[Step<'static>] = &[
-    (Get, 0, 0x0020, &[1], Queue(Ask::Last)),
-    (Get, 0, 0x0030, &[1], Status(Ask::Last)),
-    (Get, 0, 0x0020, &[2], Queue(Ask::Advisory)),
-    (Get, 0, 0x0030, &[2], Status(Ask::Advisory)),
-    (Get, 0, 0x0020, &[3], Queue(Ask::Warning)),
-    (Get, 0, 0x0030, &[3], Status(Ask::Warning)),
-    (Get, 0, 0x0020, &[4], Queue(Ask::Error)),
-    (Get, 0, 0x0030, &[4], Status(Ask::Error)),
-    (Get, 0, 0x0030, &[0], Status(Ask::None)),
-    (Get, 0, 0x0020, &[0], Refuse(DataOutOfRange)),
-    (Get, 0, 0x0020, &[5], Refuse(DataOutOfRange)),
-    (Get, 0, 0x0030, &[5], Refuse(DataOutOfRange)),
-    (Get, 0, 0x0020, &[], Refuse(FormatError)),
-    (Get, 0, 0x0030, &[], Refuse(FormatError)),
-    (Get, 0, 0x0030, &[1, 1], Refuse(FormatError)),
-    (Get, 1, 0x0020, &[2], Refuse(UnknownPid)),
-    (Get, 1, 0x0030, &[2], Refuse(UnknownPid)),
-    (Get, 2, 0x0020, &[2], Refuse(SubDeviceOutOfRange)),
-];
+const ASKED: &str = "
+get 0000 0020 01 = queue last
+get 0000 0030 01 = status last
+get 0000 0020 02 = queue advisory
+get 0000 0030 02 = status advisory
+get 0000 0020 03 = queue warning
+get 0000 0030 03 = status warning
+get 0000 0020 04 = queue error
+get 0000 0030 04 = status error
+get 0000 0030 00 = status none
+get 0000 0020 00 = nack data out of range
+get 0000 0020 05 = nack data out of range
+get 0000 0030 05 = nack data out of range
+get 0000 0020 = nack format error
+get 0000 0030 = nack format error
+get 0000 0030 01 01 = nack format error
+get 0001 0020 02 = nack unknown PID
+get 0001 0030 02 = nack unknown PID
+get 0002 0020 02 = nack sub-device out of range
+";

@@ -47,127 +47,43 @@ fn dimmer(rt: &impl Abort, alloc: Global) -> Devices {
     made(rt, alloc, with_own(rt, alloc, 1, own))
 }
 
-const STEPS: &[Step<'static>] = &[
-    (Get, 0, 0x0070, &[], Reply(&[0x04, 0x03, 0x04, 0x00])),
-    (
-        Set,
-        0,
-        0x0070,
-        &[0x04, 0x03],
-        Refuse(UnsupportedCommandClass),
-    ),
-    (Get, 0, 0x0340, &[], Reply(&DIMMER)),
-    // Scene, delay, hold time and level.
-    (Get, 0, 0x0141, &[], Reply(&[0, 0, 0, 10, 0, 0, 0])),
-    (Set, 0, 0x0141, &[0, 4, 0, 255, 0xFF, 0, 255], Reply(&[])),
-    (Get, 0, 0x0141, &[], Reply(&[0, 4, 0, 255, 0xFF, 0, 255])),
-    (
-        Set,
-        0,
-        0x0141,
-        &[0, 0, 0xFF, 0xFF, 0xFF, 0xFF, 0],
-        Reply(&[]),
-    ),
-    (
-        Set,
-        0,
-        0x0141,
-        &[0, 5, 0, 10, 0, 0, 0],
-        Refuse(DataOutOfRange),
-    ),
-    (
-        Set,
-        0,
-        0x0141,
-        &[0, 0, 0, 9, 0, 0, 0],
-        Refuse(DataOutOfRange),
-    ),
-    (
-        Set,
-        0,
-        0x0141,
-        &[0, 0, 1, 0, 0, 0, 0],
-        Refuse(DataOutOfRange),
-    ),
-    (
-        Set,
-        0,
-        0x0141,
-        &[0, 0, 0, 10, 0xFF, 1, 0],
-        Refuse(DataOutOfRange),
-    ),
-    (Set, 0, 0x0141, &[0, 0, 0, 10, 0, 0], Refuse(FormatError)),
-    (
-        Get,
-        0,
-        0x0141,
-        &[],
-        Reply(&[0, 0, 0xFF, 0xFF, 0xFF, 0xFF, 0]),
-    ),
-    // Increasing, decreasing, and whether the output is on below.
-    (Set, 0, 0x0341, &[0x7F, 0xFF, 0, 0, 0], Reply(&[])),
-    (
-        Set,
-        0,
-        0x0341,
-        &[0x80, 0x00, 0, 0, 0],
-        Refuse(DataOutOfRange),
-    ),
-    (
-        Set,
-        0,
-        0x0341,
-        &[0, 0, 0x80, 0x00, 0],
-        Refuse(DataOutOfRange),
-    ),
-    (Set, 0, 0x0341, &[0, 0, 0, 0, 2], Refuse(DataOutOfRange)),
-    (Get, 0, 0x0341, &[], Reply(&[0x7F, 0xFF, 0, 0, 0])),
-    // 26 November 2026, 23:59:60.
-    (
-        Set,
-        0,
-        0x0603,
-        &[0x07, 0xEA, 11, 26, 23, 59, 60],
-        Reply(&[]),
-    ),
-    (
-        Get,
-        0,
-        0x0603,
-        &[],
-        Reply(&[0x07, 0xEA, 11, 26, 23, 59, 60]),
-    ),
-    (
-        Set,
-        0,
-        0x0603,
-        &[0x07, 0xD2, 11, 26, 0, 0, 0],
-        Refuse(DataOutOfRange),
-    ),
-    (
-        Set,
-        0,
-        0x0603,
-        &[0x07, 0xEA, 13, 26, 0, 0, 0],
-        Refuse(DataOutOfRange),
-    ),
-    (
-        Set,
-        0,
-        0x0603,
-        &[0x07, 0xEA, 0, 26, 0, 0, 0],
-        Refuse(DataOutOfRange),
-    ),
-    // Quiet or loud.
-    (Set, 0, 0x1040, &[0xFF], Reply(&[])),
-    (Set, 0, 0x1040, &[1], Refuse(DataOutOfRange)),
-    (Get, 0, 0x1040, &[], Reply(&[0xFF])),
-    (Set, 0, 0x1040, &[0], Reply(&[])),
-    // The root alone has them, and they aren't described.
-    (Get, 1, 0x0341, &[], Refuse(UnknownPid)),
-    (Get, 0, 0x0051, &[0x03, 0x41], Refuse(UnknownPid)),
-    (Get, 0, 0x0342, &[], Refuse(UnknownPid)),
-];
+const STEPS: &str = "
+get 0000 0070 = ack 04 03 04 00
+set 0000 0070 04 03 = nack unsupported command class
+get 0000 0340 = ack 00 00 7F FF 7F FF FF FF 03 0E 01
+// Scene, delay, hold time and level.
+get 0000 0141 = ack 00 00 00 0A 00 00 00
+set 0000 0141 00 04 00 FF FF 00 FF = ack
+get 0000 0141 = ack 00 04 00 FF FF 00 FF
+set 0000 0141 00 00 FF FF FF FF 00 = ack
+set 0000 0141 00 05 00 0A 00 00 00 = nack data out of range
+set 0000 0141 00 00 00 09 00 00 00 = nack data out of range
+set 0000 0141 00 00 01 00 00 00 00 = nack data out of range
+set 0000 0141 00 00 00 0A FF 01 00 = nack data out of range
+set 0000 0141 00 00 00 0A 00 00 = nack format error
+get 0000 0141 = ack 00 00 FF FF FF FF 00
+// Increasing, decreasing, and whether the output is on below.
+set 0000 0341 7F FF 00 00 00 = ack
+set 0000 0341 80 00 00 00 00 = nack data out of range
+set 0000 0341 00 00 80 00 00 = nack data out of range
+set 0000 0341 00 00 00 00 02 = nack data out of range
+get 0000 0341 = ack 7F FF 00 00 00
+// 26 November 2026, 23:59:60.
+set 0000 0603 07 EA 0B 1A 17 3B 3C = ack
+get 0000 0603 = ack 07 EA 0B 1A 17 3B 3C
+set 0000 0603 07 D2 0B 1A 00 00 00 = nack data out of range
+set 0000 0603 07 EA 0D 1A 00 00 00 = nack data out of range
+set 0000 0603 07 EA 00 1A 00 00 00 = nack data out of range
+// Quiet or loud.
+set 0000 1040 FF = ack
+set 0000 1040 01 = nack data out of range
+get 0000 1040 = ack FF
+set 0000 1040 00 = ack
+// The root alone has them, and they aren't described.
+get 0001 0341 = nack unknown PID
+get 0000 0051 03 41 = nack unknown PID
+get 0000 0342 = nack unknown PID
+";
 
 #[test]
 fn slots_say_numbers_in_their_ranges(rt: HostRuntime) {

@@ -5,7 +5,7 @@ use super::*;
 
 pub(super) const RUNS: &[Run] = &[(1, CLEARING)];
 
-fn entry(sub: u16, severity: Severity) -> Entry {
+pub(super) fn entry(sub: u16, severity: Severity) -> Entry {
     let (id, v1, v2) = (0x8001, 0, 0);
     Entry {
         sub,
@@ -17,14 +17,14 @@ fn entry(sub: u16, severity: Severity) -> Entry {
 }
 
 /// Clearing is a SET at the root.
-const CLEARING: &[Step<'static>] = &[
-    (Set, 0, 0x0032, &[], Clear),
-    (Get, 0, 0x0032, &[], Refuse(UnsupportedCommandClass)),
-    (Set, 0, 0x0032, &[0], Refuse(FormatError)),
-    (Set, 1, 0x0032, &[], Refuse(UnknownPid)),
-    (Set, 0xFFFF, 0x0032, &[], Refuse(UnknownPid)),
-    (Get, 1, 0x0032, &[], Refuse(UnknownPid)),
-];
+const CLEARING: &str = "
+set 0000 0032 = clears
+get 0000 0032 = nack unsupported command class
+set 0000 0032 00 = nack format error
+set 0001 0032 = nack unknown PID
+set FFFF 0032 = nack unknown PID
+get 0001 0032 = nack unknown PID
+";
 
 #[test]
 fn clearing_is_answered_without_data(rt: HostRuntime) {
@@ -33,79 +33,66 @@ fn clearing_is_answered_without_data(rt: HostRuntime) {
 }
 
 /// Thresholds, and whether an advisory, a warning and an error are noted, and that one is cleared.
-const THRESHOLDS: &[(u8, bool, bool, bool)] = &[
-    (0, false, false, false),
-    (2, true, true, true),
-    (3, false, true, true),
-    (4, false, false, true),
-];
+const THRESHOLDS: &str = "<threshold> | <advisory> | <warning> | <error>
+00 | no | no | no
+02 | yes | yes | yes
+03 | no | yes | yes
+04 | no | no | yes";
+
+const NOTES_FROM: &str = "
+set 0000 0033 <threshold> = ack
+notes 0000 advisory = <advisory>
+notes 0000 advisory cleared = <advisory>
+notes 0000 warning = <warning>
+notes 0000 warning cleared = <warning>
+notes 0000 error = <error>
+notes 0000 error cleared = <error>
+";
 
 #[test]
 fn an_entry_is_noted_from_the_threshold_on(rt: HostRuntime) {
-    let mut devices = demo(&rt, rt.alloc(), 0);
-    for (threshold, advisory, warning, error) in THRESHOLDS {
-        let set: [Step<'_>; 1] = [(Set, 0, 0x0033, &[*threshold], Reply(&[]))];
-        plays(&rt, &mut devices, &set);
-        notes_from(&rt, &devices, *advisory, *warning, *error);
-    }
-}
-
-/// Whether an advisory, a warning and an error of the root are noted.
-fn notes_from(rt: &impl Abort, devices: &Devices, advisory: bool, warning: bool, error: bool) {
-    let entries = [
-        (0, Severity::Advisory, advisory),
-        (0, Severity::AdvisoryCleared, advisory),
-        (0, Severity::Warning, warning),
-        (0, Severity::WarningCleared, warning),
-        (0, Severity::Error, error),
-        (0, Severity::ErrorCleared, error),
-    ];
-    notes(rt, devices, &entries);
-}
-
-/// Whether entries are noted: of these devices, and of this severity.
-fn notes(rt: &impl Abort, devices: &Devices, entries: &[(u16, Severity, bool)]) {
-    for (sub, severity, noted) in entries {
-        let told = devices.notes(&entry(*sub, *severity));
-        assert_eq!(rt; told, *noted, "{sub} {severity:?}");
-    }
+    plays_each(
+        &rt,
+        rt.alloc(),
+        &mut demo(&rt, rt.alloc(), 0),
+        THRESHOLDS,
+        NOTES_FROM,
+    );
 }
 
 /// Whether a warning is noted of the root and of the sub-devices 1 to 3; it never is of devices that there aren't.
-fn warnings(rt: &impl Abort, devices: &Devices, [root, first, second, third]: [bool; 4]) {
-    let entries = [
-        (0, Severity::Warning, root),
-        (1, Severity::Warning, first),
-        (2, Severity::Warning, second),
-        (3, Severity::Warning, third),
-        (4, Severity::Warning, false),
-        (0xFFFF, Severity::Warning, false),
-    ];
-    notes(rt, devices, &entries);
-}
-
-/// The threshold of the sub-devices becomes 4.
-const ALL_CELLS: &[Step<'static>] = &[
-    (Set, 0xFFFF, 0x0033, &[4], Reply(&[])),
-    (Get, 0, 0x0033, &[], Reply(&[2])),
-    (Get, 1, 0x0033, &[], Reply(&[4])),
-    (Get, 2, 0x0033, &[], Reply(&[4])),
-    (Get, 3, 0x0033, &[], Reply(&[4])),
-    (Set, 0xFFFF, 0x0033, &[1], Refuse(DataOutOfRange)),
-];
-
-/// That of the root becomes 0, and that of the second sub-device 3.
-const TWO: &[Step<'static>] = &[
-    (Set, 0, 0x0033, &[0], Reply(&[])),
-    (Set, 2, 0x0033, &[3], Reply(&[])),
-];
+const EACH_ITS_OWN: &str = "
+notes 0000 warning = yes
+notes 0001 warning = yes
+notes 0002 warning = yes
+notes 0003 warning = yes
+notes 0004 warning = no
+notes FFFF warning = no
+// The threshold of the sub-devices becomes 4.
+set FFFF 0033 04 = ack
+get 0000 0033 = ack 02
+get 0001 0033 = ack 04
+get 0002 0033 = ack 04
+get 0003 0033 = ack 04
+set FFFF 0033 01 = nack data out of range
+notes 0000 warning = yes
+notes 0001 warning = no
+notes 0002 warning = no
+notes 0003 warning = no
+notes 0004 warning = no
+notes FFFF warning = no
+// That of the root becomes 0, and that of the second sub-device 3.
+set 0000 0033 00 = ack
+set 0002 0033 03 = ack
+notes 0000 warning = no
+notes 0001 warning = no
+notes 0002 warning = yes
+notes 0003 warning = no
+notes 0004 warning = no
+notes FFFF warning = no
+";
 
 #[test]
 fn each_device_has_its_own_threshold(rt: HostRuntime) {
-    let mut devices = demo(&rt, rt.alloc(), 3);
-    warnings(&rt, &devices, [true, true, true, true]);
-    plays(&rt, &mut devices, ALL_CELLS);
-    warnings(&rt, &devices, [true, false, false, false]);
-    plays(&rt, &mut devices, TWO);
-    warnings(&rt, &devices, [false, false, true, false]);
+    plays(&rt, &mut demo(&rt, rt.alloc(), 3), EACH_ITS_OWN);
 }

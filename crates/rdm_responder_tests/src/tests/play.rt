@@ -3,20 +3,22 @@
 use super::{printed, responder_with};
 use rdm_frame::Wire;
 use rdm_outbox::Job;
-use rdm_params::{Change, Outcome, Plate, Severity};
+use rdm_params::{Change, Entry, Outcome, PlaceError, Plate, Severity};
 use rdm_responder::{Report, Responder, Started, Stepped};
 use std::alloc::{AllocError, Global};
 use std::process::Abort;
 
 /// What happens to a new responder: how many sub-devices it has, for how many results there is room, and lines.
 ///
-/// Three lines say what is done. `send` has the bytes of a frame that is heard. `arrive` reports on a job: as which of the run's
+/// Six lines say what is done. `send` has the bytes of a frame that is heard. `arrive` reports on a job: as which of the run's
 /// jobs it started, counted from 0, the number that the report says, and how the job ended, in the words of a trace. `change` has
-/// what is changed at the fixture's own menu, and the value.
+/// what is changed at the fixture's own menu, and the value. `place` has the sub-device, the PID and the data that the firmware
+/// places, and `note` the sub-device and the severity of a status entry. `count` asks how many messages wait and jobs are outstanding.
 ///
 /// The others say all that comes of it. `reply` has the bytes of the reply, or `none`, and `job` the worker and the number of a
 /// job that started. After a report stands `kept` where a status entry was kept, and `astray` where the report may not arrive.
-/// After a change stands `queued` where it has a message, and `no room` where there is none for it.
+/// After a change stands `queued` where it has a message, and `no room` where there is none for it. After what is placed stands
+/// why it is refused, if it is, and after an entry `noted` where it was kept.
 ///
 /// Blanks in a line are for the eye.
 pub(super) type Run<'a> = (u16, u16, &'a str);
@@ -69,17 +71,31 @@ impl Play {
 
     /// Does what a line says, where it says what is done.
     fn goes_on(&mut self, rt: &impl Abort, alloc: Global, line: &str) -> Result<(), AllocError> {
-        if let Some(bytes) = line.strip_prefix("send ") {
-            self.tells(line)?;
-            self.hears(rt, alloc, &printed(rt, bytes))
-        } else if let Some(report) = line.strip_prefix("arrive ") {
-            self.tells(line)?;
-            self.takes(rt, report)
-        } else if let Some(change) = line.strip_prefix("change ") {
-            self.tells(line)?;
-            self.changes(rt, change)
-        } else {
-            Ok(())
+        let (verb, words) = line.split_once(' ').unwrap_or((line, ""));
+        match verb {
+            "send" | "arrive" | "change" | "place" | "note" | "count" => {
+                self.tells(line)?;
+                self.does(rt, alloc, verb, words)
+            }
+            _ => Ok(()),
+        }
+    }
+
+    /// Does what words say.
+    fn does(
+        &mut self,
+        rt: &impl Abort,
+        alloc: Global,
+        verb: &str,
+        words: &str,
+    ) -> Result<(), AllocError> {
+        match verb {
+            "send" => self.hears(rt, alloc, &printed(rt, words)),
+            "arrive" => self.takes(rt, words),
+            "change" => self.changes(rt, words),
+            "place" => self.places(rt, words),
+            "note" => self.notes(rt, words),
+            _ => self.counts(alloc),
         }
     }
 
@@ -195,6 +211,34 @@ impl Play {
         self.tells_of(told)
     }
 
+    /// Places a value, as both responders do.
+    fn places(&mut self, rt: &impl Abort, text: &str) -> Result<(), AllocError> {
+        let (sub, pid, data) = value_in(text).expect(rt, "a value");
+        let data = printed(rt, data);
+        let placed = self.responder.place(sub, pid, data.as_slice());
+        assert_eq!(rt;
+            self.other.place(sub, pid, data.as_slice()),
+            placed,
+            "{text}"
+        );
+        self.tells_of(refusal_of(&placed))
+    }
+
+    /// Notes a status entry, as both responders do.
+    fn notes(&mut self, rt: &impl Abort, text: &str) -> Result<(), AllocError> {
+        let entry = entry_in(text).expect(rt, "an entry");
+        let noted = self.responder.note(entry);
+        assert_eq!(rt; self.other.note(entry), noted, "{text}");
+        self.tells_of(if noted { "noted" } else { "" })
+    }
+
+    /// Tells how many messages wait, and how many jobs are outstanding.
+    fn counts(&mut self, alloc: Global) -> Result<(), AllocError> {
+        let (waiting, outstanding) = (self.responder.waiting(), self.responder.outstanding());
+        let line = format!(in alloc; "{waiting} waiting, {outstanding} outstanding")?;
+        self.tells(&line)
+    }
+
     /// The report that words say: which job, a number and an outcome.
     fn report_in(&self, text: &str) -> Option<Report> {
         let (at, said) = text.split_once(' ')?;
@@ -205,6 +249,36 @@ impl Play {
         let job = Job { number, ..*started };
         Some(Report { job, outcome })
     }
+}
+
+/// The value that words say: the sub-device, the PID and the digits of the data.
+fn value_in(text: &str) -> Option<(u16, u16, &str)> {
+    let (sub, rest) = text.split_once(' ')?;
+    let (pid, data) = rest.split_once(' ').unwrap_or((rest, ""));
+    Some((word_in(sub)?, word_in(pid)?, data))
+}
+
+/// Why a value isn't placed.
+fn refusal_of(placed: &Result<(), PlaceError>) -> &'static str {
+    match placed {
+        Ok(()) => "",
+        Err(PlaceError::NoDevice) => "no device",
+        Err(PlaceError::NoValue) => "no value",
+        Err(PlaceError::Length) => "length",
+        Err(PlaceError::OutOfRange) => "out of range",
+    }
+}
+
+/// The entry that words say, of the sub-device and the severity: a fan that stands still, with two values.
+fn entry_in(text: &str) -> Option<Entry> {
+    let (sub, severity) = text.split_once(' ')?;
+    Some(Entry {
+        sub: word_in(sub)?,
+        severity: severity_in(severity)?,
+        id: 0x8001,
+        v1: 5,
+        v2: 6,
+    })
 }
 
 /// The change that words say: a number in decimal digits, or a label in hexadecimal ones.
