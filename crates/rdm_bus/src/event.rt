@@ -34,6 +34,19 @@ impl Step {
     }
 }
 
+/// A step whose command is lent, so that it is played from where it stands, and its data aren't copied.
+#[derive(Clone, Copy, Debug)]
+pub enum StepRef<'a> {
+    /// The controller sends a command, and this goes wrong.
+    Ask(&'a Command, Fault),
+    /// The controller polls for a message, and this goes wrong.
+    Collect(Fault),
+    /// The report of a job arrives at the device.
+    Arrive(Report),
+    /// A person changes a value at the device's own menu.
+    Change(Change),
+}
+
 /// What has happened on a bus.
 #[derive(Debug, Drop)]
 pub enum Event {

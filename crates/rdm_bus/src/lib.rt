@@ -14,7 +14,7 @@ mod event;
 mod laws;
 mod system;
 
-pub use event::{Event, Step};
+pub use event::{Event, Step, StepRef};
 pub use laws::{
     answers_are_heard, bus_recording_laws_hold, commands_are_sent, headline_holds,
     headline_rules_out, jobs_are_numbered, messages_are_kept, play_errors_are_equal_by_value,

@@ -14,9 +14,10 @@ ghost use Rattle.rdm_bus.specs.BusLaws.{BusLaws, recorded_by};
 ghost use Rattle.rdm_bus.specs.BusRun.{Start, after, after_all, after_reply, history_after, reply_in, transaction, fault_of, IsPlayed, IsAlteredInVain};
 ghost use Rattle.rdm_bus.specs.Happened.{reported_in, started_in};
 ghost use Rattle.rdm_bus.specs.Headline.{Headline, unclosed};
+ghost use Rattle.rdm_bus.specs.Steps.{step_of};
 ghost use Rattle.rdm_bus.specs.Systems.{Stands, IsTrace, IsAstray, HasNoRoom, refusal_in, start_of};
 
-use crate::event::{Event, Step};
+use crate::event::{Event, Step, StepRef};
 use crate::laws::{bus_recording_laws_hold, headline_holds};
 use rdm_collector::{Collector, Heard, PollError, is_reserved};
 use rdm_frame::ranges::bytes_fit;
@@ -110,19 +111,35 @@ impl System {
         ensures no_room { IsErrOf result PlayError.NoRoom → HasNoRoom self.old.responder step.now }
         ensures err { OnErr result (self.new ≡ self.old) }
     {
-        self.play_started(step)?;
-        Ok(())
+        match step {
+            Step::Ask(command, fault) => {
+                self.play_started(&StepRef::Ask(command, *fault))?;
+                Ok(())
+            }
+            Step::Collect(fault) => {
+                self.play_started(&StepRef::Collect(*fault))?;
+                Ok(())
+            }
+            Step::Arrive(report) => {
+                self.play_started(&StepRef::Arrive(*report))?;
+                Ok(())
+            }
+            Step::Change(change) => {
+                self.play_started(&StepRef::Change(*change))?;
+                Ok(())
+            }
+        }
     }
 
-    /// Plays a step as `play` does, and gives the job that it started, if it did, with its worker and its estimate (E1.20
+    /// Plays a lent step as `play` does, and gives the job that it started, if it did, with its worker and its estimate (E1.20
     /// section 6.3.3). It is the job of the event, which is then the last of the trace.
-    pub fn play_started(&mut self, step: &Step) -> Result<Option<Started>, PlayError>
-        requires { raise_of (fault_of step.now) ≢ Some 0 }
+    pub fn play_started(&mut self, step: &StepRef<'_>) -> Result<Option<Started>, PlayError>
+        requires { raise_of (fault_of (step_of step.now)) ≢ Some 0 }
         ensures trace { OnOk result ((start : Start) (steps : List Step) →
-            IsTrace start steps self.old → IsTrace start (steps ++ step.now ∷ []) self.new) }
+            IsTrace start steps self.old → IsTrace start (steps ++ step_of step.now ∷ []) self.new) }
         ensures event { IfOk result (λ started. (event : Event) × (self.new.trace ≡ self.old.trace ++ event ∷ [])
             × ((start : Start) (steps : List Step) →
-            IsTrace start steps self.old → IsPlayed (after_all start self.old.trace) step.now event)
+            IsTrace start steps self.old → IsPlayed (after_all start self.old.trace) (step_of step.now) event)
             × (started_in event ≡ option_to_list (job_in started))) }
         ensures table { IfOk result (λ started. IfSome started (IsAsInProfile self.old.responder.parameters.profile)) }
         ensures worker { IfOk result (λ started. IfSome started (IsForItsWorker self.old.responder.outbox.workers)) }
@@ -130,12 +147,12 @@ impl System {
             IsTrace start steps self.old → BusLaws start self.new.trace) }
         ensures headline { OnOk result ((start : Start) (steps : List Step) →
             IsLawful start.history → IsTrace start steps self.old →
-            Headline start (steps ++ step.now ∷ []) (unclosed (reported_in (steps ++ step.now ∷ [])))
+            Headline start (steps ++ step_of step.now ∷ []) (unclosed (reported_in (steps ++ step_of step.now ∷ [])))
             self.new.trace self.new.collector.recorded) }
-        ensures reserved { IsErrOf result PlayError.Reserved ↔ (refusal_in step.now ≡ Some PlayError.Reserved) }
-        ensures too_long { IsErrOf result PlayError.TooLong ↔ (refusal_in step.now ≡ Some PlayError.TooLong) }
-        ensures astray { IsErrOf result PlayError.Astray → IsAstray self.old.responder step.now }
-        ensures no_room { IsErrOf result PlayError.NoRoom → HasNoRoom self.old.responder step.now }
+        ensures reserved { IsErrOf result PlayError.Reserved ↔ (refusal_in (step_of step.now) ≡ Some PlayError.Reserved) }
+        ensures too_long { IsErrOf result PlayError.TooLong ↔ (refusal_in (step_of step.now) ≡ Some PlayError.TooLong) }
+        ensures astray { IsErrOf result PlayError.Astray → IsAstray self.old.responder (step_of step.now) }
+        ensures no_room { IsErrOf result PlayError.NoRoom → HasNoRoom self.old.responder (step_of step.now) }
         ensures err { OnErr result (self.new ≡ self.old) }
     {
         // The trace is a run of the bus, and the laws and the headline hold of every run.
@@ -175,15 +192,15 @@ impl System {
 }
 
 /// Why a step is never played, if so.
-fn refusal_in(step: &Step) -> Option<PlayError>
-    ensures { result ≡ refusal_in step.now }
+fn refusal_in(step: &StepRef<'_>) -> Option<PlayError>
+    ensures { result ≡ refusal_in (step_of step.now) }
 {
     match step {
-        Step::Ask(command, _) if is_reserved(command.pid) => Some(PlayError::Reserved),
-        Step::Ask(command, _) if command.load.as_slice().len() > MOST_DATA => {
+        StepRef::Ask(command, _) if is_reserved(command.pid) => Some(PlayError::Reserved),
+        StepRef::Ask(command, _) if command.load.as_slice().len() > MOST_DATA => {
             Some(PlayError::TooLong)
         }
-        Step::Ask(_, _) | Step::Collect(_) | Step::Arrive(_) | Step::Change(_) => None,
+        StepRef::Ask(_, _) | StepRef::Collect(_) | StepRef::Arrive(_) | StepRef::Change(_) => None,
     }
 }
 
@@ -211,13 +228,13 @@ impl Made {
 fn happen(
     responder: &mut Responder,
     collector: &mut Collector,
-    step: &Step,
+    step: &StepRef<'_>,
 ) -> Result<Made, PlayError>
     requires idle { collector.now.transaction ≡ None }
-    requires not_refused { refusal_in step.now ≡ None }
-    requires fault { raise_of (fault_of step.now) ≢ Some 0 }
+    requires not_refused { refusal_in (step_of step.now) ≡ None }
+    requires fault { raise_of (fault_of (step_of step.now)) ≢ Some 0 }
     ensures played { IfOk result (λ made. (s : Start) (messages : List Message) →
-        Stands responder.old collector.old s messages → IsPlayed s step.now made.event) }
+        Stands responder.old collector.old s messages → IsPlayed s (step_of step.now) made.event) }
     ensures stands { IfOk result (λ made. (s : Start) (messages : List Message) →
         Stands responder.old collector.old s messages →
         Stands responder.new collector.new (after s made.event) (messages ++ recorded_by made.event)) }
@@ -228,23 +245,23 @@ fn happen(
     ensures worker { IfOk result (λ made. IfSome made.started (IsForItsWorker responder.old.outbox.workers)) }
     ensures idle { collector.new.transaction ≡ None }
     ensures refused { IfErr result (λ e. (e ≢ PlayError.Reserved) × (e ≢ PlayError.TooLong)) }
-    ensures astray { IsErrOf result PlayError.Astray → IsAstray responder.old step.now }
-    ensures no_room { IsErrOf result PlayError.NoRoom → HasNoRoom responder.old step.now }
+    ensures astray { IsErrOf result PlayError.Astray → IsAstray responder.old (step_of step.now) }
+    ensures no_room { IsErrOf result PlayError.NoRoom → HasNoRoom responder.old (step_of step.now) }
     ensures err { OnErr result ((responder.new ≡ responder.old) × (collector.new ≡ collector.old)) }
 {
     match step {
-        Step::Ask(command, fault) => match collector.ask(command) {
+        StepRef::Ask(command, fault) => match collector.ask(command) {
             Ok(sent) => Ok(carry(responder, collector, sent, false, *fault)),
             // No transaction is open, and the step isn't refused.
             Err(_) => unreachable!(),
         },
-        Step::Collect(fault) => match collector.poll() {
+        StepRef::Collect(fault) => match collector.poll() {
             Ok(sent) => Ok(carry(responder, collector, sent, true, *fault)),
             Err(PollError::OutOfMemory) => Err(PlayError::OutOfMemory),
             // No transaction is open.
             Err(PollError::Busy) => unreachable!(),
         },
-        Step::Arrive(report) => match responder.arrive(*report) {
+        StepRef::Arrive(report) => match responder.arrive(*report) {
             Ok(arrival) => Ok(Made::idle(Event::Arrived {
                 report: *report,
                 message: arrival.message,
@@ -252,7 +269,7 @@ fn happen(
             })),
             Err(_) => Err(PlayError::Astray),
         },
-        Step::Change(change) => match responder.change(*change) {
+        StepRef::Change(change) => match responder.change(*change) {
             Ok(message) => Ok(Made::idle(Event::Changed {
                 change: *change,
                 message,

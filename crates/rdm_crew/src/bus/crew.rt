@@ -9,6 +9,7 @@ ghost use Rattle.rdm_lane.specs.Ends.{with_item, IsSameTake};
 ghost use Rattle.rdm_lane.specs.Lane.{items_from};
 ghost use Rattle.rdm_params.specs.Jobs.Work.{worker_at};
 ghost use Rattle.rdm_bus.specs.BusRun.{fault_of};
+ghost use Rattle.rdm_bus.specs.Steps.{step_of};
 ghost use Rattle.rdm_bus.specs.Systems.{refusal_in};
 ghost use Rattle.rdm_crew.specs.Crews.{IsTied, HasChanges, HasChanged, IsSameCrew, IsSent, HasSent, HasPlayed, HavePlayed, IsStopped, AreStopped, IsRefused};
 ghost use Rattle.rdm_crew.specs.Desks.{chosen, IsDrawn, IsSameDesk, stands_at};
@@ -21,7 +22,7 @@ use crate::step::CrewStep;
 use crate::threads::equipment::BusKit;
 use crate::threads::putting::{close, put};
 use crate::threads::waiting::{Bell, Waiter};
-use rdm_bus::{PlayError, Step, System};
+use rdm_bus::{PlayError, Step, StepRef, System};
 use rdm_lane::{Post, Take, Taken};
 use rdm_outbox::Job;
 use rdm_params::{Change, started_work_is_its_command};
@@ -127,8 +128,8 @@ impl Crew {
         ensures same { IsSameCrew self.old self.new }
     {
         match step {
-            CrewStep::Ask(command, fault) => self.send(rt, &Step::Ask(command.copy(), *fault)),
-            CrewStep::Collect(fault) => self.send(rt, &Step::Collect(*fault)),
+            CrewStep::Ask(command, fault) => self.send(rt, &StepRef::Ask(command, *fault)),
+            CrewStep::Collect(fault) => self.send(rt, &StepRef::Collect(*fault)),
             CrewStep::Draw => self.draw_one(rt),
             CrewStep::Settle(empties) => self.desk.settle(rt, *empties),
             CrewStep::Panel(empties) => self.draw_change(rt, *empties),
@@ -196,14 +197,14 @@ impl Crew {
     }
 
     /// Sends a command or a poll, and puts the job that starts into its worker's lane.
-    fn send<R: Wait>(&mut self, rt: &R, step: &Step) -> Result<(), Stop>
+    fn send<R: Wait>(&mut self, rt: &R, step: &StepRef<'_>) -> Result<(), Stop>
         requires tied { IsTied self.old }
-        requires sent { IsSent step.now }
-        requires fault { raise_of (fault_of step.now) ≢ Some 0 }
+        requires sent { IsSent (step_of step.now) }
+        requires fault { raise_of (fault_of (step_of step.now)) ≢ Some 0 }
         ensures played { MatchResult result
-            (λ _. IsTied self.new × HasSent step.now self.old.desk self.new.desk)
-            (λ stop. IsRefused step.now stop) }
-        ensures never_refused { OnOk result (refusal_in step.now ≡ None) }
+            (λ _. IsTied self.new × HasSent (step_of step.now) self.old.desk self.new.desk)
+            (λ stop. IsRefused (step_of step.now) stop) }
+        ensures never_refused { OnOk result (refusal_in (step_of step.now) ≡ None) }
         ensures changes { self.new.changes ≡ self.old.changes }
         ensures same { IsSameCrew self.old self.new }
     {

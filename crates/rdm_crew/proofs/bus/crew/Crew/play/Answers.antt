@@ -8,7 +8,7 @@ pub returns-in-Settle-clause-played : goal.returns-in-Settle-clause-played
 returns-in-Settle-clause-played g c = settled_step c.args.self.now _ c.args.step.now c.in-Settle.empties c.settle.result c.in-Settle.is c.requires.tied c.settle.ensures.same.0 refl refl c.settle.ensures.settled
 
 pub returns-in-Ask-clause-changes : goal.returns-in-Ask-clause-changes
-returns-in-Ask-clause-changes g c = sent_keeps (bus.Ask c.copy.result c.in-Ask.fault) c.args.self.now c.send.new.self c.send.result tt c.send.ensures.played c.send.ensures.changes c.requires.changes
+returns-in-Ask-clause-changes g c = sent_keeps (bus.Ask c.in-Ask.command c.in-Ask.fault) c.args.self.now c.send.new.self c.send.result tt c.send.ensures.played c.send.ensures.changes c.requires.changes
 
 pub returns-in-Collect-clause-changes : goal.returns-in-Collect-clause-changes
 returns-in-Collect-clause-changes g c =
