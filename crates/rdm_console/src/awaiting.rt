@@ -62,6 +62,13 @@ impl<'a> Awaiting<'a> {
         }
     }
 
+    /// What the command does.
+    pub(crate) fn action(&self) -> Action
+        ensures { result ≡ self.now.command.action }
+    {
+        self.command.action
+    }
+
     /// Hears a message of the device, and says what it means for the command. The messages are heard in the order in which they
     /// come.
     #[tactic(auto, unfolding(crate::specs::Endings::verdict_on))]

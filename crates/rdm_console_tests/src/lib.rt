@@ -2,6 +2,8 @@
 #![tactic(auto)]
 
 #[cfg(test)]
+mod conversations;
+#[cfg(test)]
 mod mailboxes;
 #[cfg(test)]
 mod tests;

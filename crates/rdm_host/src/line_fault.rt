@@ -3,6 +3,7 @@
 use crate::fault::{BAD_USAGE, Fault};
 use crate::name::Name;
 use rdm_collector::{AskError, PollError, PortError};
+use rdm_console::{AskFault, PollFault};
 use rdm_entry::Complaint;
 use rdm_frame::Uid;
 use rdm_frame::standard::MOST_DATA;
@@ -121,6 +122,24 @@ impl From<PollError> for Fault<'_> {
         match error {
             PollError::OutOfMemory => Fault::Memory,
             PollError::Busy => Fault::Line(LineFault::Busy),
+        }
+    }
+}
+
+impl From<AskFault> for Fault<'_> {
+    fn from(fault: AskFault) -> Self {
+        match fault {
+            AskFault::Ask(error) => Fault::from(error),
+            AskFault::Port(error) => Fault::from(error),
+        }
+    }
+}
+
+impl From<PollFault> for Fault<'_> {
+    fn from(fault: PollFault) -> Self {
+        match fault {
+            PollFault::Poll(error) => Fault::from(error),
+            PollFault::Port(error) => Fault::from(error),
         }
     }
 }

@@ -1,46 +1,16 @@
 //! The messages of a device are fetched.
 
-use super::console::{Console, MOST_PARTS, TRIES};
+use super::console::Console;
+use rdm_host::line_fault::LineFault;
 use super::telling::CONSOLE;
-use rdm_collector::{Port, Uid, Want, Wire};
-use rdm_console::{Came, Mailbox, Sorted};
 use rdm_host::fault::Fault;
 use rdm_host::host::Host;
-use rdm_host::line_fault::LineFault;
+use rdm_collector::{Port, Uid, Want, Wire};
+use rdm_console::{Came, Fetched, Fetching, Mailbox, Sorted, poll_once};
 use std::io::Write;
 
 /// How many messages are fetched at most. A device has no more that wait, but may say for ever that one does.
 const MOST_MESSAGES: u32 = 65536;
-
-/// What comes of a poll, or of as many as the parts of a message need.
-#[derive(Clone, Copy)]
-pub enum Fetched {
-    /// A message, which was told: the mailbox has it.
-    Message,
-    /// A message that was told before.
-    Repeat,
-    /// Nothing waits in the device.
-    Nothing,
-    /// The device has no queue.
-    NoQueue,
-    /// The device rejects the poll, for the reason with this code (E1.20 table A-17).
-    Refused(u16),
-    /// The device needs so many tenths of a second for the poll (section 6.3.3).
-    NotYet(u16),
-    /// The device doesn't answer, as often as it was asked.
-    Silent,
-}
-
-/// What comes of one poll.
-#[derive(Clone, Copy)]
-enum Polled {
-    /// This.
-    Fetched(Fetched),
-    /// A part of a message, whose rest is to be fetched.
-    Part,
-    /// Nothing that answers it.
-    Nothing,
-}
 
 impl<'a, H: Host, P: Port, F: Write> Console<'a, H, P, F> {
     /// Fetches all messages that wait in a device, and tells each.
@@ -57,10 +27,13 @@ impl<'a, H: Host, P: Port, F: Write> Console<'a, H, P, F> {
             match self.fetch(mailbox)? {
                 Fetched::Message | Fetched::Repeat => {}
                 Fetched::Nothing => return Ok(()),
-                Fetched::NotYet(tenths) => self.teller.wait(uid, tenths),
+                Fetched::NotYet { tenths } => self.teller.wait(uid, tenths),
                 Fetched::NoQueue => return Err(Fault::Line(LineFault::NoQueue(uid))),
-                Fetched::Refused(code) => return Err(Fault::Line(LineFault::Refused(uid, code))),
+                Fetched::Refused { reason } => {
+                    return Err(Fault::Line(LineFault::Refused(uid, reason)));
+                }
                 Fetched::Silent => return Err(Fault::Line(LineFault::Silent(uid))),
+                Fetched::Endless => return Err(Fault::Line(LineFault::Endless(uid))),
             }
         }
         Err(Fault::Line(LineFault::Endless(uid)))
@@ -69,56 +42,34 @@ impl<'a, H: Host, P: Port, F: Write> Console<'a, H, P, F> {
     /// Fetches the next message of a device, and tells it. A poll that isn't answered is repeated, and then the device gives the
     /// last message again, if it gave one (E1.20 section 10.3.1).
     pub(crate) fn fetch(&mut self, mailbox: &mut Mailbox) -> Result<Fetched, Fault<'a>> {
-        let mut silent: u8 = 0;
-        for _turn in 0..MOST_PARTS {
-            match self.poll(mailbox)? {
-                Polled::Fetched(fetched) => return Ok(fetched),
-                Polled::Part => silent = 0,
-                Polled::Nothing => {
-                    silent = silent.saturating_add(1);
-                    if silent >= TRIES {
-                        return Ok(Fetched::Silent);
-                    }
-                }
+        let mut fetching = Fetching::new();
+        for _turn in 0..u64::MAX {
+            let came = self.told_poll(mailbox)?;
+            if let Some(fetched) = fetching.hear(came) {
+                return Ok(fetched);
             }
         }
-        Err(Fault::Line(LineFault::Endless(mailbox.uid())))
+        Ok(Fetched::Endless)
     }
 
-    /// Polls a device once, and tells what is fetched.
-    fn poll(&mut self, mailbox: &mut Mailbox) -> Result<Polled, Fault<'a>> {
-        let request = mailbox.poll()?;
-        let heard = self.port.exchange(&request)?;
-        match mailbox.hear(&heard) {
-            Came::Message(sorted) => self.tell_sorted(mailbox, sorted, &heard),
-            Came::NoQueue => Ok(Polled::Fetched(Fetched::NoQueue)),
-            Came::Refused { reason } => Ok(Polled::Fetched(Fetched::Refused(reason))),
-            Came::NotYet { tenths } => Ok(Polled::Fetched(Fetched::NotYet(tenths))),
-            Came::Reply | Came::Ignored => Ok(Polled::Nothing),
+    /// Polls a device once, and tells what is fetched, unless it was told before. Of a message in parts the rest is told with the last.
+    pub(crate) fn told_poll(&mut self, mailbox: &mut Mailbox) -> Result<Came, Fault<'a>> {
+        let (came, heard) = poll_once(mailbox, &mut self.port)?;
+        if let Came::Message(Sorted::Letter | Sorted::Part) = came {
+            self.tell_heard(mailbox, &heard)?;
         }
+        if came == Came::Message(Sorted::Letter) {
+            self.tell_more(mailbox)?;
+        }
+        Ok(came)
     }
 
-    /// Tells what was fetched, unless it was told before. Of a message in parts it is nothing until the last one is there.
-    fn tell_sorted(
-        &mut self,
-        mailbox: &mut Mailbox,
-        sorted: Sorted,
-        heard: &Option<Wire>,
-    ) -> Result<Polled, Fault<'a>> {
-        let is_whole = match sorted {
-            Sorted::Nothing => return Ok(Polled::Fetched(Fetched::Nothing)),
-            Sorted::Repeat => return Ok(Polled::Fetched(Fetched::Repeat)),
-            Sorted::Letter => true,
-            Sorted::Part => false,
-        };
-        if let Some(reply) = heard {
-            self.tell_reply(mailbox, reply)?;
+    /// Tells what was heard.
+    fn tell_heard(&mut self, mailbox: &mut Mailbox, heard: &Option<Wire>) -> Result<(), Fault<'a>> {
+        match heard {
+            Some(reply) => self.tell_reply(mailbox, reply),
+            None => Ok(()),
         }
-        if !is_whole {
-            return Ok(Polled::Part);
-        }
-        self.tell_more(mailbox)?;
-        Ok(Polled::Fetched(Fetched::Message))
     }
 
     /// Tells of the message that came last what its reply doesn't say.

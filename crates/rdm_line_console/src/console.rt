@@ -2,19 +2,12 @@
 
 use super::recorder::Recorder;
 use super::telling::Teller;
-use rdm_collector::{Action, Command, Port, Response, Wire, read_reply};
-use rdm_console::{Came, Mailbox};
 use rdm_host::fault::Fault;
 use rdm_host::host::Host;
-use rdm_host::line_fault::LineFault;
+use rdm_collector::{Action, Command, Port, Response, Wire, read_reply};
+use rdm_console::{Answered, Came, Mailbox, ask_once, ask_through};
 use rdm_words::Question;
 use std::io::Write;
-
-/// How many times in a row a device is asked that doesn't answer.
-pub const TRIES: u8 = 3;
-
-/// How many parts a reply has at most: a parameter of 65,536 slots.
-pub const MOST_PARTS: u32 = 300;
 
 /// How many questions are asked at most before a reply is told: a status message has at most 25 entries.
 const MOST_QUESTIONS: u32 = 32;
@@ -29,90 +22,58 @@ pub struct Console<'a, H, P, F> {
 }
 
 impl<'a, H: Host, P: Port, F: Write> Console<'a, H, P, F> {
-    /// What a device answers to a command. If it doesn't, it is asked again.
+    /// What a device answers to a command, which is sent again while it doesn't; nothing if it never does.
     pub(crate) fn answer(
         &mut self,
         mailbox: &mut Mailbox,
         command: &Command,
-    ) -> Result<Wire, Fault<'a>> {
-        for _turn in 0..TRIES {
-            if let Some(reply) = self.reply(mailbox, command)? {
-                return Ok(reply);
-            }
-        }
-        Err(Fault::Line(LineFault::Silent(mailbox.uid())))
-    }
-
-    /// The reply of a device to a command that is sent once.
-    fn reply(
-        &mut self,
-        mailbox: &mut Mailbox,
-        command: &Command,
     ) -> Result<Option<Wire>, Fault<'a>> {
-        let request = mailbox.ask(command)?;
-        let heard = self.port.exchange(&request)?;
-        match mailbox.hear(&heard) {
-            Came::Reply => Ok(heard),
-            _ => Ok(None),
-        }
+        Ok(ask_through(mailbox, &mut self.port, command)?)
     }
 
-    /// How a device answers a command. The answer is told, and all its parts, if it comes in parts (E1.20 section 6.3.2): they are
-    /// fetched by the same command.
+    /// Sends a command once. What is answered is told, and the data of all parts, if it is the last of several (E1.20 section 6.3.2).
     pub(crate) fn told_answer(
         &mut self,
         mailbox: &mut Mailbox,
         command: &Command,
-    ) -> Result<Response, Fault<'a>> {
-        let mut joined = Vec::new(self.teller.rt().alloc());
-        self.told_parts(mailbox, command, &mut joined)
-    }
-
-    /// The same, with the data of all parts in a list that was empty.
-    fn told_parts(
-        &mut self,
-        mailbox: &mut Mailbox,
-        command: &Command,
         joined: &mut Vec<u8>,
-    ) -> Result<Response, Fault<'a>> {
-        for _turn in 0..MOST_PARTS {
-            let is_first = joined.is_empty();
-            match self.told_part(mailbox, command, joined)? {
-                Response::AckOverflow => {}
-                response => {
-                    if !is_first && response == Response::Ack {
-                        self.teller.tell_joined(joined.as_slice())?;
-                    }
-                    return Ok(response);
-                }
-            }
+    ) -> Result<Answered, Fault<'a>> {
+        let (came, heard) = ask_once(mailbox, &mut self.port, command)?;
+        if came == Came::Reply {
+            self.tell_part(mailbox, &heard, joined)?;
         }
-        Err(Fault::Line(LineFault::Endless(mailbox.uid())))
+        Ok(Answered::of(came, &heard))
     }
 
-    /// How a device answers a command. The answer is told, and its data are put at the end of a list.
-    fn told_part(
+    /// Tells a reply, or a part of one, and puts its data behind those of the parts before it.
+    fn tell_part(
         &mut self,
         mailbox: &mut Mailbox,
-        command: &Command,
+        heard: &Option<Wire>,
         joined: &mut Vec<u8>,
-    ) -> Result<Response, Fault<'a>> {
-        let reply = self.answer(mailbox, command)?;
-        self.tell_reply(mailbox, &reply)?;
-        let Some(said) = read_reply(reply.as_slice()) else {
-            return Err(Fault::Line(LineFault::Unknown(mailbox.uid())));
+    ) -> Result<(), Fault<'a>> {
+        let Some(reply) = heard else {
+            return Ok(());
         };
+        self.tell_reply(mailbox, reply)?;
+        let Some(said) = read_reply(reply.as_slice()) else {
+            return Ok(());
+        };
+        let is_first = joined.is_empty();
         joined.extend_from_slice(said.body)?;
-        Ok(said.response)
+        if said.response == Response::AckOverflow {
+            return Ok(());
+        }
+        if !is_first && said.response == Response::Ack {
+            self.teller.tell_joined(joined.as_slice())?;
+        }
+        joined.clear();
+        Ok(())
     }
 
     /// Tells the words of a reply of the device of a mailbox. What it takes to say it in words, as the unit of a sensor, is asked
     /// first.
-    pub(crate) fn tell_reply(
-        &mut self,
-        mailbox: &mut Mailbox,
-        reply: &Wire,
-    ) -> Result<(), Fault<'a>> {
+    pub(crate) fn tell_reply(&mut self, mailbox: &mut Mailbox, reply: &Wire) -> Result<(), Fault<'a>> {
         self.learn(mailbox, reply)?;
         let teller = self.teller;
         let known = self.port.log().knowledge.of(mailbox.uid());
@@ -149,11 +110,7 @@ impl<'a, H: Host, P: Port, F: Write> Console<'a, H, P, F> {
             pid: question.pid,
             load: question.data.copy(),
         };
-        match self.answer(mailbox, &command) {
-            Ok(reply) => Ok(Some(reply)),
-            Err(Fault::Line(LineFault::Silent(_))) => Ok(None),
-            Err(fault) => Err(fault),
-        }
+        self.answer(mailbox, &command)
     }
 }
 

@@ -142,7 +142,9 @@ impl<'a, H: Host, P: Port, F: Write> Console<'a, H, P, F> {
     fn description_of(&mut self, command: &Command) -> Result<Option<Vec<Field>>, Fault<'a>> {
         let alloc = self.teller.rt().alloc();
         let mut mailbox = Mailbox::new(alloc, CONSOLE, command.dst, Want::Advisory);
-        let reply = self.answer(&mut mailbox, &question(command))?;
+        let Some(reply) = self.answer(&mut mailbox, &question(command))? else {
+            return Err(Fault::Line(LineFault::Silent(command.dst)));
+        };
         match read_reply(reply.as_slice()) {
             Some(said) if said.response == Response::Ack => {
                 Ok(fields_described(alloc, said.body)?)

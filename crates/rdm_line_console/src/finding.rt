@@ -142,13 +142,9 @@ impl<'a, H: Host, P: Port, F: Write> Console<'a, H, P, F> {
             pid: kind.pid(),
             load: Load::new(),
         };
-        let reply = match self.answer(mailbox, &command) {
-            Ok(reply) => reply,
-            Err(Fault::Line(LineFault::Silent(_))) => {
-                line.push_str(" -")?;
-                return Ok(());
-            }
-            Err(fault) => return Err(fault),
+        let Some(reply) = self.answer(mailbox, &command)? else {
+            line.push_str(" -")?;
+            return Ok(());
         };
         match read_reply(reply.as_slice()) {
             Some(said) if said.response == Response::Ack => put_quoted(line, said.body),

@@ -1,13 +1,12 @@
 //! All devices of a line are polled in turn.
 
-use super::collecting::Fetched;
 use super::console::Console;
+use rdm_host::line_fault::{LineFault, Reason};
 use super::telling::CONSOLE;
-use rdm_collector::{Port, Uid, Want};
-use rdm_console::Mailbox;
 use rdm_host::fault::Fault;
 use rdm_host::host::Host;
-use rdm_host::line_fault::Reason;
+use rdm_collector::{Port, Uid, Want};
+use rdm_console::{Fetched, Mailbox};
 use std::io::Write;
 use std::thread;
 use std::time::Duration;
@@ -84,6 +83,9 @@ impl<'a, H: Host, P: Port, F: Write> Console<'a, H, P, F> {
             return Ok(false);
         }
         let fetched = self.fetch(&mut watched.mailbox)?;
+        if fetched == Fetched::Endless {
+            return Err(Fault::Line(LineFault::Endless(watched.mailbox.uid())));
+        }
         let state = state_after(fetched);
         if state != watched.state {
             self.tell_state(watched.mailbox.uid(), state)?;
@@ -116,10 +118,10 @@ impl<'a, H: Host, P: Port, F: Write> Console<'a, H, P, F> {
 /// How a device answers polls of which this came.
 fn state_after(fetched: Fetched) -> State {
     match fetched {
-        Fetched::Message | Fetched::Repeat | Fetched::Nothing | Fetched::NotYet(_) =>
+        Fetched::Message | Fetched::Repeat | Fetched::Nothing | Fetched::NotYet { .. } =>
             State::Answers,
         Fetched::NoQueue => State::NoQueue,
-        Fetched::Refused(code) => State::Refuses(code),
-        Fetched::Silent => State::Silent,
+        Fetched::Refused { reason } => State::Refuses(reason),
+        Fetched::Silent | Fetched::Endless => State::Silent,
     }
 }
