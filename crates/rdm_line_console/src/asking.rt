@@ -1,13 +1,13 @@
 //! A command is sent, and its result waited for.
 
 use super::console::Console;
-use rdm_host::line_fault::LineFault;
 use super::telling::CONSOLE;
-use rdm_host::fault::Fault;
-use rdm_host::host::Host;
 use rdm_collector::{Command, Port, Response, Want};
 use rdm_console::{Conversation, Entry, Lack, Mailbox, Next};
 use rdm_frame::Uid;
+use rdm_host::fault::Fault;
+use rdm_host::host::Host;
+use rdm_host::line_fault::LineFault;
 use rdm_words::put_cause;
 use std::io::Write;
 

@@ -1,12 +1,12 @@
 //! The messages of a device are fetched.
 
 use super::console::Console;
-use rdm_host::line_fault::LineFault;
 use super::telling::CONSOLE;
-use rdm_host::fault::Fault;
-use rdm_host::host::Host;
 use rdm_collector::{Port, Uid, Want, Wire};
 use rdm_console::{Came, Fetched, Fetching, Mailbox, Sorted, poll_once};
+use rdm_host::fault::Fault;
+use rdm_host::host::Host;
+use rdm_host::line_fault::LineFault;
 use std::io::Write;
 
 /// How many messages are fetched at most. A device has no more that wait, but may say for ever that one does.

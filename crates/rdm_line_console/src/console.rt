@@ -2,10 +2,10 @@
 
 use super::recorder::Recorder;
 use super::telling::Teller;
-use rdm_host::fault::Fault;
-use rdm_host::host::Host;
 use rdm_collector::{Action, Command, Port, Response, Wire, read_reply};
 use rdm_console::{Answered, Came, Mailbox, ask_once, ask_through};
+use rdm_host::fault::Fault;
+use rdm_host::host::Host;
 use rdm_words::Question;
 use std::io::Write;
 
@@ -73,7 +73,11 @@ impl<'a, H: Host, P: Port, F: Write> Console<'a, H, P, F> {
 
     /// Tells the words of a reply of the device of a mailbox. What it takes to say it in words, as the unit of a sensor, is asked
     /// first.
-    pub(crate) fn tell_reply(&mut self, mailbox: &mut Mailbox, reply: &Wire) -> Result<(), Fault<'a>> {
+    pub(crate) fn tell_reply(
+        &mut self,
+        mailbox: &mut Mailbox,
+        reply: &Wire,
+    ) -> Result<(), Fault<'a>> {
         self.learn(mailbox, reply)?;
         let teller = self.teller;
         let known = self.port.log().knowledge.of(mailbox.uid());

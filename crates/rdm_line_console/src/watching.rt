@@ -1,12 +1,12 @@
 //! All devices of a line are polled in turn.
 
 use super::console::Console;
-use rdm_host::line_fault::{LineFault, Reason};
 use super::telling::CONSOLE;
-use rdm_host::fault::Fault;
-use rdm_host::host::Host;
 use rdm_collector::{Port, Uid, Want};
 use rdm_console::{Fetched, Mailbox};
+use rdm_host::fault::Fault;
+use rdm_host::host::Host;
+use rdm_host::line_fault::{LineFault, Reason};
 use std::io::Write;
 use std::thread;
 use std::time::Duration;
