@@ -1,5 +1,10 @@
 //! What no clause says: that the keys are those of docs/FIXTURE.md, and the words of the refusals.
+//!
+//! Rows are text. The first line of a row has a fixture's file: `¶` ends a line of it, `␍` is a carriage return, and `..` stands for
+//! `LEAST` and the tables that a table of rows has for all. Below it stands what is told of it: why it is refused, or the part of the
+//! fixture that the table is about. An empty line ends a row.
 
+mod changed;
 mod estimates;
 mod lines;
 mod locks;
@@ -11,48 +16,235 @@ mod standards;
 mod starting;
 mod values;
 mod workers;
-mod writing;
 
-use rdm_fixture::Fixture;
-use std::alloc::Global;
+use rdm_device::{ChoiceName, Estimates, Field, Lock, ParameterDef, SensorDef, Workers};
+use rdm_fixture::{Fixture, Starting, shown_at_start};
+use std::alloc::{AllocError, Global};
 use std::process::Abort;
-use std::test::Fail;
+use std::str;
 
 /// What a fixture has to say at least.
 const LEAST: &str =
     "uid = \"7FF0:00000001\"\ndevice_model_id = 1\n[[personality]]\ndmx_footprint = 0\n";
 
-/// What is told of a text: nothing where it describes a fixture, which then has a text of its own.
-fn told(alloc: Global, text: &str) -> Result<String, Fail> {
-    match Fixture::from_toml(alloc, text) {
-        Ok(fixture) => {
-            fixture.to_toml(alloc)?;
-            Ok(String::new(alloc))
+/// Which part of a fixture is told.
+#[derive(Clone, Copy)]
+enum Part {
+    /// That it is one.
+    Fault,
+    /// The times of the lamp, the power state, self tests and sensors.
+    Times,
+    /// The numbers of the workers of the lamp, the power state, self tests and sensors.
+    Workers,
+    /// What each state locks: its number, and a PID.
+    Locks,
+    /// How many parameters are locked.
+    LockCount,
+    /// Of each parameter that it adds: its commands, its data, what it starts with, the least and the greatest value, and whether
+    /// FACTORY_DEFAULTS sets it back.
+    Parameters,
+    /// The data of each parameter that it adds, and the numbers in their slots.
+    Fields,
+    /// Of each choice: the PID, the number, the frequency and the name.
+    Choices,
+    /// The counters that it starts with, and what each sensor has measured.
+    Start,
+    /// What is placed for each sensor.
+    Sensors,
+}
+
+/// Rows of one kind.
+struct Table {
+    part: Part,
+    /// What stands behind the least in each row.
+    tables: &'static str,
+    rows: &'static str,
+}
+
+/// Reads tables of rows.
+fn try_tables(rt: &impl Abort, alloc: Global, tables: &[Table]) {
+    for table in tables {
+        try_rows(rt, alloc, table);
+    }
+}
+
+fn try_rows(rt: &impl Abort, alloc: Global, table: &Table) {
+    for row in table.rows.split("\n\n") {
+        try_row(rt, alloc, table, row);
+    }
+}
+
+fn try_row(rt: &impl Abort, alloc: Global, table: &Table, row: &str) {
+    let (line, expected) = row.split_once('\n').unwrap_or((row, ""));
+    let file = file_in(alloc, table.tables, line).expect(rt, "memory");
+    told_is(rt, alloc, table.part, &file, expected);
+}
+
+/// This is told of a file.
+fn told_is(rt: &impl Abort, alloc: Global, part: Part, file: &str, expected: &str) {
+    let told = told(alloc, part, file).expect(rt, "memory");
+    assert!(rt; told.as_str() == expected, "{file}: {told}");
+}
+
+/// The file that the first line of a row says.
+fn file_in(alloc: Global, tables: &str, line: &str) -> Result<String, AllocError> {
+    let Some((before, after)) = line.split_once("..") else {
+        return with_ends(alloc, line);
+    };
+    let after = after.strip_prefix(' ').unwrap_or(after);
+    let text = format!(in alloc; "{before}{LEAST}{tables}{after}")?;
+    with_ends(alloc, &text)
+}
+
+/// The text with the ends of its lines.
+fn with_ends(alloc: Global, text: &str) -> Result<String, AllocError> {
+    let mut lines = String::new(alloc);
+    for letter in text.chars() {
+        lines.push(match letter {
+            '¶' => '\n',
+            '␍' => '\r',
+            other => other,
+        })?;
+    }
+    Ok(lines)
+}
+
+/// What is told of a file: why it is refused, or this part of its fixture.
+fn told(alloc: Global, part: Part, file: &str) -> Result<String, AllocError> {
+    match Fixture::from_toml(alloc, file) {
+        Err(error) => format!(in alloc; "{error}"),
+        Ok(fixture) if is_read_again(alloc, &fixture) => part_of(alloc, part, &fixture),
+        Ok(_) => String::from_str(alloc, "written as another fixture"),
+    }
+}
+
+/// Whether the text that a fixture is written as is read as the same fixture.
+fn is_read_again(alloc: Global, fixture: &Fixture) -> bool {
+    match fixture.to_toml(alloc) {
+        Ok(text) => Fixture::from_toml(alloc, &text).is_ok_and(|again| again == *fixture),
+        Err(_) => false,
+    }
+}
+
+/// A part of a fixture.
+fn part_of(alloc: Global, part: Part, fixture: &Fixture) -> Result<String, AllocError> {
+    let profile = &fixture.profile;
+    match part {
+        Part::Fault => String::from_str(alloc, "a fixture"),
+        Part::Times => times_text(alloc, profile.particulars.estimates()),
+        Part::Workers => workers_text(alloc, profile.workers),
+        Part::Locks => locks_text(alloc, profile.particulars.locks()),
+        Part::LockCount => {
+            let count = profile.particulars.locks().len();
+            format!(in alloc; "{count} locked")
         }
-        Err(error) => Ok(format!(in alloc; "{error}")?),
+        Part::Parameters => parameters_text(alloc, profile.particulars.own()),
+        Part::Fields => data_text(alloc, profile.particulars.own()),
+        Part::Choices => choices_text(alloc, profile.particulars.choices()),
+        Part::Start => start_text(alloc, fixture),
+        Part::Sensors => sensors_text(alloc, profile.sensors.as_slice()),
     }
 }
 
-/// Keys before the least, tables after it, and what is told.
-type Row = (&'static str, &'static str, &'static str);
+fn times_text(alloc: Global, times: Estimates) -> Result<String, AllocError> {
+    let Estimates {
+        lamp,
+        power,
+        self_test,
+        sensor,
+    } = times;
+    format!(in alloc; "{lamp} {power} {self_test} {sensor}")
+}
 
-/// Reads the rows.
-fn try_rows(rt: &(impl Abort + AllocGlobal), rows: &[Row]) -> Result<(), Fail> {
-    for (before, after, expected) in rows {
-        try_row(rt, before, after, expected)?;
+fn workers_text(alloc: Global, workers: Workers) -> Result<String, AllocError> {
+    let lamp = workers.lamp.number();
+    let power = workers.power.number();
+    let self_test = workers.self_test.number();
+    let sensor = workers.sensor.number();
+    format!(in alloc; "{lamp} {power} {self_test} {sensor}")
+}
+
+fn start_text(alloc: Global, fixture: &Fixture) -> Result<String, AllocError> {
+    let start = &fixture.start;
+    let presents = start.presents.as_slice();
+    let is_nothing = *start == Starting::nothing(&fixture.profile.sensors);
+    format!(in alloc;
+        "{} {} {} {} {presents:?}, nothing: {is_nothing}",
+        start.device_hours, start.lamp_hours, start.lamp_strikes, start.device_power_cycles
+    )
+}
+
+/// Puts a line at the end of others.
+fn put_line(lines: &mut String, line: &str) -> Result<(), AllocError> {
+    if !lines.is_empty() {
+        lines.push_str("\n")?;
+    }
+    lines.push_str(line)
+}
+
+fn locks_text(alloc: Global, locks: &[Lock]) -> Result<String, AllocError> {
+    let mut lines = String::new(alloc);
+    for lock in locks {
+        let line = format!(in alloc; "{} {:04X}", lock.state, lock.pid)?;
+        put_line(&mut lines, &line)?;
+    }
+    Ok(lines)
+}
+
+fn parameters_text(alloc: Global, own: &[ParameterDef]) -> Result<String, AllocError> {
+    let mut lines = String::new(alloc);
+    for def in own {
+        let start = def.start.as_slice();
+        let line = format!(in alloc;
+            "{:?} {:?} {start:?}, {} to {}, set back: {}",
+            def.rights, def.shape, def.low, def.high, def.resets
+        )?;
+        put_line(&mut lines, &line)?;
+    }
+    Ok(lines)
+}
+
+fn data_text(alloc: Global, own: &[ParameterDef]) -> Result<String, AllocError> {
+    let mut lines = String::new(alloc);
+    for def in own {
+        let line = format!(in alloc; "data {:?}", def.shape)?;
+        put_line(&mut lines, &line)?;
+        put_fields(alloc, &mut lines, def.fields.as_slice())?;
+    }
+    Ok(lines)
+}
+
+fn put_fields(alloc: Global, lines: &mut String, fields: &[Field]) -> Result<(), AllocError> {
+    for field in fields {
+        let line = format!(in alloc;
+            "number {:?}, {} to {}, or {}",
+            field.width, field.low, field.high, field.also
+        )?;
+        put_line(lines, &line)?;
     }
     Ok(())
 }
 
-/// This is told of a text with keys before the least and tables after it.
-fn try_row(
-    rt: &(impl Abort + AllocGlobal),
-    before: &str,
-    after: &str,
-    expected: &str,
-) -> Result<(), Fail> {
-    let text = format!(in rt.alloc(); "{before}\n{LEAST}{after}")?;
-    let told = told(rt.alloc(), text.as_str())?;
-    assert!(rt; told.as_str() == expected, "{before} {after}: {told}");
-    Ok(())
+fn choices_text(alloc: Global, choices: &[ChoiceName]) -> Result<String, AllocError> {
+    let mut lines = String::new(alloc);
+    for choice in choices {
+        let name = str::from_utf8(choice.name.as_slice()).unwrap_or("no text");
+        let line = format!(in alloc;
+            "{:04X} {}, {} Hz, \"{name}\"",
+            choice.pid, choice.number, choice.hertz
+        )?;
+        put_line(&mut lines, &line)?;
+    }
+    Ok(lines)
+}
+
+/// What is placed where sensor 7 has measured -2.
+fn sensors_text(alloc: Global, sensors: &[SensorDef]) -> Result<String, AllocError> {
+    let mut lines = String::new(alloc);
+    for sensor in sensors {
+        let shown = shown_at_start(7, -2, sensor);
+        let line = format!(in alloc; "at once: {}, {:?}", sensor.at_once, shown.as_slice())?;
+        put_line(&mut lines, &line)?;
+    }
+    Ok(lines)
 }

@@ -1,7 +1,7 @@
 //! What no clause says: when a lane is full or empty, what `put` and `close` put, and that memory suffices. The answers
 //! are worked out by hand.
 
-ghost use Rattle.std.specs.Prelude.{◌≡◌, IfOk};
+ghost use Rattle.std.specs.Prelude.{◌≡◌};
 ghost use Rattle.rdm_lane.specs.Ends.{IsSameTake, IsSamePost};
 
 use rdm_lane::*;
@@ -17,24 +17,26 @@ mod words;
 
 /// The ends of a lane of two posts, post 0 first.
 fn lane_of_two(
+    rt: &impl Abort,
     alloc: Global,
     capacity: usize,
     limit: u32,
-) -> Result<(Take<u32>, Post<u32>, Post<u32>), Fail>
-    ensures lanes { IfOk result (λ ends. (ends.1.lane ≡ ends.0.lane) × (ends.2.lane ≡ ends.0.lane)) }
-    ensures posts { IfOk result (λ ends. (ends.0.posts ≡ 2) × (ends.1.producer ≡ 0) × (ends.2.producer ≡ 1)) }
+) -> (Take<u32>, Post<u32>, Post<u32>)
+    ensures lanes { (result.1.lane ≡ result.0.lane) × (result.2.lane ≡ result.0.lane) }
+    ensures posts { (result.0.posts ≡ 2) × (result.1.producer ≡ 0) × (result.2.producer ≡ 1) }
 {
-    let Ends { take, mut posts } = lane::<u32>(alloc, capacity, 2, limit)?;
-    let one = posts.pop().ok_or("no post 1")?;
-    let zero = posts.pop().ok_or("no post 0")?;
-    Ok((take, zero, one))
+    let made = lane::<u32>(alloc, capacity, 2, limit);
+    let Ends { take, mut posts } = made.expect(rt, "a lane");
+    let one = posts.pop().expect(rt, "post 1");
+    let zero = posts.pop().expect(rt, "post 0");
+    (take, zero, one)
 }
 
 /// The post, closed, where the lane has room for its mark.
-fn closed(rt: &impl Wait, post: Post<u32>) -> Result<ClosedPost<u32>, Fail>
-    ensures { IfOk result (λ closed. IsSamePost post closed) }
+fn closed<R: Wait + Abort>(rt: &R, post: Post<u32>) -> ClosedPost<u32>
+    ensures { IsSamePost post result }
 {
-    Ok(post.close(rt).ok().ok_or("no room for the mark")?)
+    post.close(rt).ok().expect(rt, "room for the mark")
 }
 
 /// Asserts that these are the next answers.
@@ -42,7 +44,8 @@ fn gives<R: Wait + Abort>(rt: &R, take: &mut Take<u32>, answers: &[Taken<u32>])
     ensures { IsSameTake take.old take.new }
 {
     for answer in answers {
-        assert_eq!(rt; take.take(rt), Ok(*answer));
+        let is_next = take.take(rt) == Ok(*answer);
+        assert!(rt; is_next, "not {answer:?}");
     }
 }
 

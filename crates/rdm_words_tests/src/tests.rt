@@ -16,30 +16,67 @@ mod texts;
 use rdm_device::Profile;
 use rdm_frame::digits::bytes_in;
 use rdm_frame::{Load, Uid};
-use rdm_words::{Known, words};
+use rdm_words::{Known, put_fixture, words};
+use std::alloc::Global;
 use std::process::Abort;
 use std::str;
-use std::test::Fail;
 
-/// The fixture whose frames these are: the demo fixture.
+/// The fixture whose frames these are.
+const FIXTURE: Uid = Uid {
+    maker: 0x7FF0,
+    device: 1,
+};
+
+/// What is known of it: it is the demo fixture.
 fn demo(profile: &Profile) -> Known<'_> {
-    let uid = Uid {
-        maker: 0x7FF0,
-        device: 1,
-    };
-    Known::of(uid, profile)
+    Known::of(FIXTURE, profile)
 }
 
 /// Reads the rows: a line, and below it its words behind those that are the same in each row. An empty line ends a row.
-fn try_rows(rt: &(impl Abort + AllocGlobal), front: &str, rows: &str) -> Result<(), Fail> {
-    let profile = Profile::demo(4);
+fn try_rows(rt: &impl Abort, alloc: Global, known: &Known<'_>, front: &str, rows: &str) {
     for row in rows.split("\n\n") {
         let (line, expected) = row.split_once('\n').unwrap_or((row, ""));
-        let said = words(rt.alloc(), line.as_bytes(), &demo(&profile))?;
-        let expected = format!(in rt.alloc(); "{front}{expected}\n")?;
-        says(rt, said.as_slice(), expected.as_str());
+        let expected = format!(in alloc; "{front}{expected}\n").expect(rt, "memory");
+        says_of(rt, alloc, known, line, &expected);
     }
-    Ok(())
+}
+
+/// A line, or a trace, has these words.
+fn says_of(rt: &impl Abort, alloc: Global, known: &Known<'_>, text: &str, expected: &str) {
+    let said = words(alloc, text.as_bytes(), known).expect(rt, "memory");
+    says(rt, said.as_slice(), expected);
+}
+
+/// The words of a line end with these.
+fn ends_with(rt: &impl Abort, alloc: Global, known: &Known<'_>, line: &str, expected: &str) {
+    let said = words(alloc, line.as_bytes(), known).expect(rt, "memory");
+    assert!(rt;
+        said.as_slice().ends_with(expected.as_bytes()),
+        "not: {expected}"
+    );
+}
+
+/// What is said of a fixture, behind its boot software.
+fn is_described(rt: &impl Abort, alloc: Global, profile: &Profile, expected: &str) {
+    let mut said = Vec::new(alloc);
+    put_fixture(&mut said, FIXTURE, profile, &[]).expect(rt, "memory");
+    let text = str::from_utf8(said.as_slice()).unwrap_or("");
+    assert!(rt; text.ends_with(expected), "{text}");
+}
+
+#[test]
+fn lines_have_their_words(rt: HostRuntime) {
+    let profile = Profile::demo(4);
+    let known = demo(&profile);
+    let asks = "7FF0:00000002 asks 7FF0:00000001: ";
+    let answers = "7FF0:00000001 answers 7FF0:00000002: ";
+    try_rows(&rt, rt.alloc(), &known, "", lines::LINES);
+    try_rows(&rt, rt.alloc(), &known, asks, requests::REQUESTS);
+    try_rows(&rt, rt.alloc(), &known, answers, responses::RESPONSES);
+    try_rows(&rt, rt.alloc(), &Known::nothing(), "", captures::FRAMES);
+    short::try_requests(&rt, rt.alloc(), &known, short::REQUESTS);
+    short::try_replies(&rt, rt.alloc(), &known, short::REPLIES);
+    says_of(&rt, rt.alloc(), &known, belonging::TRACE, belonging::WORDS);
 }
 
 /// Aborts where the bytes aren't this text.

@@ -1,77 +1,59 @@
 //! The times of slow commands, and sensors that are answered at once.
 
-use super::{LEAST, Row, try_rows};
-use rdm_device::Estimates;
-use rdm_fixture::Fixture;
-use std::process::Abort;
-use std::test::Fail;
+use super::{Part, Table, try_tables};
+
+const TABLES: &[Table] = &[
+    Table {
+        part: Part::Fault,
+        tables: "",
+        rows: ROWS,
+    },
+    Table {
+        part: Part::Times,
+        tables: "",
+        rows: TIMES,
+    },
+];
+
+#[test]
+fn rows(rt: HostRuntime) {
+    try_tables(&rt, rt.alloc(), TABLES);
+}
 
 /// What is told of a table of times, and of a sensor.
-const ROWS: &[Row] = &[
-    ("", "[estimates]", ""),
-    ("estimates = {}", "", ""),
-    ("estimates = 5", "", "line 1: `estimates` isn't a table"),
-    ("estimates.lamp_state = 65535", "", ""),
-    (
-        "estimates = { lamp_state = 65536 }",
-        "",
-        "line 1: in [estimates], `lamp_state` isn't an integer from 0 to 65535",
-    ),
-    (
-        "",
-        "[estimates]\npower_state = 1\nlamp = 1",
-        "line 8: in [estimates], unknown key `lamp`",
-    ),
-    ("", "[[sensor]]\ntype = 1\nanswered_at_once = true", ""),
-    (
-        "",
-        "[[sensor]]\ntype = 1\nanswered_at_once = 1",
-        "line 8: in sensor 1, `answered_at_once` must be true or false",
-    ),
-];
+const ROWS: &str = r#"¶.. [estimates]
+a fixture
 
-#[test]
-fn what_is_told_of_times(rt: HostRuntime) -> Result<(), Fail> {
-    try_rows(&rt, ROWS)
-}
+estimates = {}¶..
+a fixture
 
-/// Tables of times, and the times of the lamp, the power state, self tests and sensors.
-const TIMES: &[(&str, (u16, u16, u16, u16))] = &[
-    ("", (50, 20, 100, 5)),
-    ("[estimates]\n", (50, 20, 100, 5)),
-    (
-        "[estimates]\nlamp_state = 0\nperform_selftest = 600\n",
-        (0, 20, 600, 5),
-    ),
-    (
-        "[estimates]\npower_state = 1\nsensor_value = 65535\n",
-        (50, 1, 100, 65535),
-    ),
-];
+estimates = 5¶..
+line 1: `estimates` isn't a table
 
-/// The estimates of a text.
-fn estimates_of(
-    rt: &(impl Abort + AllocGlobal),
-    times: &str,
-) -> Result<(u16, u16, u16, u16), Fail> {
-    let text = format!(in rt.alloc(); "{LEAST}{times}")?;
-    let fixture = Fixture::from_toml(rt.alloc(), text.as_str())?;
-    let written = fixture.to_toml(rt.alloc())?;
-    let again = Fixture::from_toml(rt.alloc(), written.as_str())?;
-    assert!(rt; again == fixture);
-    let Estimates {
-        lamp,
-        power,
-        self_test,
-        sensor,
-    } = fixture.profile.particulars.estimates();
-    Ok((lamp, power, self_test, sensor))
-}
+estimates.lamp_state = 65535¶..
+a fixture
 
-#[test]
-fn times_that_are_not_said_are_usual(rt: HostRuntime) -> Result<(), Fail> {
-    for (text, times) in TIMES {
-        assert_eq!(rt; estimates_of(&rt, text)?, *times, "{text}");
-    }
-    Ok(())
-}
+estimates = { lamp_state = 65536 }¶..
+line 1: in [estimates], `lamp_state` isn't an integer from 0 to 65535
+
+¶.. [estimates]¶power_state = 1¶lamp = 1
+line 8: in [estimates], unknown key `lamp`
+
+¶.. [[sensor]]¶type = 1¶answered_at_once = true
+a fixture
+
+¶.. [[sensor]]¶type = 1¶answered_at_once = 1
+line 8: in sensor 1, `answered_at_once` must be true or false"#;
+
+/// Tables of times, and the times of the lamp, the power state, self tests and sensors. Those that are not said are usual.
+const TIMES: &str = r#"..
+50 20 100 5
+
+.. [estimates]¶
+50 20 100 5
+
+.. [estimates]¶lamp_state = 0¶perform_selftest = 600¶
+0 20 600 5
+
+.. [estimates]¶power_state = 1¶sensor_value = 65535¶
+50 1 100 65535"#;

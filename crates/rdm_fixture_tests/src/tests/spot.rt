@@ -1,8 +1,6 @@
 //! The LED spot of the examples, whose file says what slow commands are like.
 
-use rdm_device::{Estimates, Worker, Workers};
-use rdm_fixture::Fixture;
-use std::test::Fail;
+use super::{Part, told_is};
 
 /// examples/led_spot.toml.
 const SPOT: &str =
@@ -77,35 +75,14 @@ value = 1
 reading = 48
 "#;
 
-/// All jobs are one worker's.
-const ALONE: Workers = Workers {
-    lamp: Worker::First,
-    power: Worker::First,
-    self_test: Worker::First,
-    sensor: Worker::First,
-};
+/// The first sensor is answered at once; and what is placed where sensor 7 has measured -2.
+const AT_ONCE: &str = "at once: true, [7, 255, 254, 255, 254, 255, 254, 0, 0]
+at once: false, [7, 255, 254, 255, 254, 255, 254, 0, 0]";
 
-/// Its times, of which that of the power state is the usual one.
-const TIMES: Estimates = Estimates {
-    lamp: 5,
-    power: 20,
-    self_test: 20,
-    sensor: 2,
-};
-
+/// All jobs are one worker's, and the time of the power state is the usual one.
 #[test]
-fn a_spot_has_one_worker_and_a_sensor_that_is_answered_at_once(
-    rt: HostRuntime,
-) -> Result<(), Fail> {
-    let spot = Fixture::from_toml(rt.alloc(), SPOT)?;
-    assert_eq!(rt; spot.profile.workers, ALONE);
-    assert_eq!(rt; spot.profile.particulars.estimates(), TIMES);
-    let mut at_once = [true, true];
-    for (slot, sensor) in at_once.iter_mut().zip(spot.profile.sensors.iter()) {
-        *slot = sensor.at_once;
-    }
-    assert_eq!(rt; at_once, [true, false]);
-    let text = spot.to_toml(rt.alloc())?;
-    assert!(rt; Fixture::from_toml(rt.alloc(), text.as_str())? == spot);
-    Ok(())
+fn a_spot_has_one_worker_and_a_sensor_that_is_answered_at_once(rt: HostRuntime) {
+    told_is(&rt, rt.alloc(), Part::Workers, SPOT, "0 0 0 0");
+    told_is(&rt, rt.alloc(), Part::Times, SPOT, "5 20 20 2");
+    told_is(&rt, rt.alloc(), Part::Sensors, SPOT, AT_ONCE);
 }

@@ -1,220 +1,162 @@
 //! Each key that holds one value: what may stand there, and what is told of anything else.
 
-use super::{LEAST, told};
+use super::{LEAST, Part, told, with_ends};
+use std::alloc::{AllocError, Global};
 use std::process::Abort;
-use std::test::Fail;
 
-/// A key that holds an integer: what stands before it in its table, nothing for the table at the top, and its range.
-const NUMBERS: &[(&str, &str, i64, i64)] = &[
-    ("", "product_category", 0, 0xFFFF),
-    ("", "software_version_id", 0, 0xFFFF_FFFF),
-    ("", "boot_software_version_id", 0, 0xFFFF_FFFF),
-    ("", "dmx_start_address", 1, 512),
-    ("", "presets", 0, 65534),
-    ("", "device_hours", 0, 0xFFFF_FFFF),
-    ("", "lamp_hours", 0, 0xFFFF_FFFF),
-    ("", "lamp_strikes", 0, 0xFFFF_FFFF),
-    ("", "device_power_cycles", 0, 0xFFFF_FFFF),
-    (
-        "[[slot]]\nlabel_id = 1\n[[personality]]",
-        "dmx_footprint",
-        0,
-        1,
-    ),
-    ("[[slot]]", "label_id", 0, 0xFFFF),
-    ("[[slot]]\nlabel_id = 1", "type", 0, 0xFF),
-    ("[[slot]]\nlabel_id = 1", "default_value", 0, 0xFF),
-    ("[[sensor]]", "type", 0, 0xFF),
-    ("[[sensor]]\ntype = 1", "unit", 0, 0xFF),
-    ("[[sensor]]\ntype = 1", "prefix", 0, 0xFF),
-    ("[[sensor]]\ntype = 1", "range_minimum_value", -32768, 32767),
-    ("[[sensor]]\ntype = 1", "range_maximum_value", -32768, 32767),
-    (
-        "[[sensor]]\ntype = 1",
-        "normal_minimum_value",
-        -32768,
-        32767,
-    ),
-    (
-        "[[sensor]]\ntype = 1",
-        "normal_maximum_value",
-        -32768,
-        32767,
-    ),
-    ("[[sensor]]\ntype = 1", "recorded_value_support", 0, 0xFF),
-    ("[[sensor]]\ntype = 1", "present", -32768, 32767),
-    ("[estimates]", "lamp_state", 0, 0xFFFF),
-    ("[estimates]", "power_state", 0, 0xFFFF),
-    ("[estimates]", "perform_selftest", 0, 0xFFFF),
-    ("[estimates]", "sensor_value", 0, 0xFFFF),
-    ("[workers]", "lamp_state", 0, 1),
-    ("[workers]", "power_state", 0, 1),
-    ("[workers]", "perform_selftest", 0, 1),
-    ("[workers]", "sensor_value", 0, 1),
-    ("[[self_test]]", "number", 1, 254),
-    ("[[status]]", "id", 0, 0xFFFF),
-    (
-        "[[outcome]]\nparameter = \"POWER_STATE\"\ndone = true",
-        "value",
-        0,
-        0xFF,
-    ),
-    (
-        "[[outcome]]\nparameter = \"POWER_STATE\"\ndone = true",
-        "job",
-        1,
-        0xFFFF,
-    ),
-    (
-        "[[sensor]]\ntype = 1\n[[outcome]]\nparameter = \"SENSOR_VALUE\"",
-        "reading",
-        -32768,
-        32767,
-    ),
-    (
-        "[[sensor]]\ntype = 1\n[[status]]\nid = 0xFFFF\n[[outcome]]\nparameter = \"SENSOR_VALUE\"\nseverity = \"error\"",
-        "status_id",
-        0,
-        0xFFFF,
-    ),
-    (
-        "[[outcome]]\nparameter = \"LAMP_STATE\"\nseverity = \"error\"\nstatus_id = 1",
-        "data_value_1",
-        0,
-        0xFFFF,
-    ),
-    (
-        "[[outcome]]\nparameter = \"LAMP_STATE\"\nseverity = \"error\"\nstatus_id = 1",
-        "data_value_2",
-        0,
-        0xFFFF,
-    ),
-    (
-        "[sub_devices]\ndevice_model_id = 1\npersonality = [{ dmx_footprint = 512 }]",
-        "count",
-        0,
-        512,
-    ),
-    (
-        "[sub_devices]\ncount = 1\npersonality = [{ dmx_footprint = 512 }]",
-        "device_model_id",
-        0,
-        0xFFFF,
-    ),
-];
+/// A key that holds an integer, an integer that is too small, its least, its greatest, and one that is too great; and what stands
+/// before it in its table, nothing for the table at the top.
+const NUMBERS: &str = r#"product_category -1 0 65535 65536
+software_version_id -1 0 4294967295 4294967296
+boot_software_version_id -1 0 4294967295 4294967296
+dmx_start_address 0 1 512 513
+presets -1 0 65534 65535
+device_hours -1 0 4294967295 4294967296
+lamp_hours -1 0 4294967295 4294967296
+lamp_strikes -1 0 4294967295 4294967296
+device_power_cycles -1 0 4294967295 4294967296
+dmx_footprint -1 0 1 2: [[slot]]¶label_id = 1¶[[personality]]
+label_id -1 0 65535 65536: [[slot]]
+type -1 0 255 256: [[slot]]¶label_id = 1
+default_value -1 0 255 256: [[slot]]¶label_id = 1
+type -1 0 255 256: [[sensor]]
+unit -1 0 255 256: [[sensor]]¶type = 1
+prefix -1 0 255 256: [[sensor]]¶type = 1
+range_minimum_value -32769 -32768 32767 32768: [[sensor]]¶type = 1
+range_maximum_value -32769 -32768 32767 32768: [[sensor]]¶type = 1
+normal_minimum_value -32769 -32768 32767 32768: [[sensor]]¶type = 1
+normal_maximum_value -32769 -32768 32767 32768: [[sensor]]¶type = 1
+recorded_value_support -1 0 255 256: [[sensor]]¶type = 1
+present -32769 -32768 32767 32768: [[sensor]]¶type = 1
+lamp_state -1 0 65535 65536: [estimates]
+power_state -1 0 65535 65536: [estimates]
+perform_selftest -1 0 65535 65536: [estimates]
+sensor_value -1 0 65535 65536: [estimates]
+lamp_state -1 0 1 2: [workers]
+power_state -1 0 1 2: [workers]
+perform_selftest -1 0 1 2: [workers]
+sensor_value -1 0 1 2: [workers]
+number 0 1 254 255: [[self_test]]
+id -1 0 65535 65536: [[status]]
+value -1 0 255 256: [[outcome]]¶parameter = "POWER_STATE"¶done = true
+job 0 1 65535 65536: [[outcome]]¶parameter = "POWER_STATE"¶done = true
+reading -32769 -32768 32767 32768: [[sensor]]¶type = 1¶[[outcome]]¶parameter = "SENSOR_VALUE"
+status_id -1 0 65535 65536: [[sensor]]¶type = 1¶[[status]]¶id = 0xFFFF¶[[outcome]]¶parameter = "SENSOR_VALUE"¶severity = "error"
+data_value_1 -1 0 65535 65536: [[outcome]]¶parameter = "LAMP_STATE"¶severity = "error"¶status_id = 1
+data_value_2 -1 0 65535 65536: [[outcome]]¶parameter = "LAMP_STATE"¶severity = "error"¶status_id = 1
+count -1 0 512 513: [sub_devices]¶device_model_id = 1¶personality = [{ dmx_footprint = 512 }]
+device_model_id -1 0 65535 65536: [sub_devices]¶count = 1¶personality = [{ dmx_footprint = 512 }]"#;
 
-/// A key that holds a text.
-const TEXTS: &[(&str, &str)] = &[
-    ("", "device_model_description"),
-    ("", "manufacturer_label"),
-    ("", "device_label"),
-    ("", "software_version_label"),
-    ("", "boot_software_version_label"),
-    ("[[personality]]\ndmx_footprint = 0", "description"),
-    ("[[slot]]\nlabel_id = 1", "description"),
-    ("[[sensor]]\ntype = 1", "description"),
-    ("[[self_test]]\nnumber = 1", "description"),
-    ("[[status]]\nid = 1", "description"),
-];
+/// A key that holds a text, and what stands before it in its table.
+const TEXTS: &str = r#"device_model_description
+manufacturer_label
+device_label
+software_version_label
+boot_software_version_label
+description: [[personality]]¶dmx_footprint = 0
+description: [[slot]]¶label_id = 1
+description: [[sensor]]¶type = 1
+description: [[self_test]]¶number = 1
+description: [[status]]¶id = 1"#;
 
-/// The end of what is told of a value at a key.
-fn try_value(
-    rt: &(impl Abort + AllocGlobal),
-    table: &str,
-    key: &str,
-    value: &str,
-    expected: &str,
-) -> Result<(), Fail> {
+/// What a text may be.
+const GOOD_TEXT: &str = r#""an ASCII text of just 32 letters""#;
+
+/// What no key of a number holds, behind integers out of its range.
+const NO_NUMBERS: &str = r#""1"|1.0|true|[1]|{}"#;
+
+/// What no key of a text holds.
+const NO_TEXTS: &str = r#""an ASCII text of only 33 letters."|"\u007F"|1|["a"]"#;
+
+/// A key, and what stands before it in its table.
+#[derive(Clone, Copy)]
+struct Place<'a> {
+    key: &'a str,
+    table: &'a str,
+}
+
+/// What is told of a value at a key.
+fn told_of(alloc: Global, place: Place<'_>, value: &str) -> Result<String, AllocError> {
+    let Place { key, table } = place;
     let text = if table.is_empty() {
-        format!(in rt.alloc(); "{key} = {value}\n{LEAST}")?
+        format!(in alloc; "{key} = {value}\n{LEAST}")?
     } else {
-        format!(in rt.alloc(); "{LEAST}{table}\n{key} = {value}\n")?
+        format!(in alloc; "{LEAST}{table}\n{key} = {value}\n")?
     };
-    let told = told(rt.alloc(), text.as_str())?;
-    let ends = told.as_str().ends_with(expected) && told.is_empty() == expected.is_empty();
-    assert!(rt; ends, "{text}: {told}");
+    let file = with_ends(alloc, &text)?;
+    told(alloc, Part::Fault, &file)
+}
+
+/// The end of what is told of each of these values at a key.
+fn try_values(rt: &impl Abort, alloc: Global, place: Place<'_>, values: &str, expected: &str) {
+    for value in values.split('|') {
+        let told = told_of(alloc, place, value).expect(rt, "memory");
+        let ends = told.as_str().ends_with(expected);
+        assert!(rt; ends, "{} = {value}: {told}", place.key);
+    }
+}
+
+/// A key with a slip of the pen.
+fn try_slip(rt: &impl Abort, alloc: Global, place: Place<'_>) -> Result<(), AllocError> {
+    let key = format!(in alloc; "{}s", place.key)?;
+    let expected = format!(in alloc; "unknown key `{key}`")?;
+    let slip = Place {
+        key: &key,
+        table: place.table,
+    };
+    try_values(rt, alloc, slip, "1", &expected);
     Ok(())
 }
 
-/// Values of other types, and the key with a slip of the pen.
-fn try_others(
-    rt: &(impl Abort + AllocGlobal),
-    table: &str,
-    key: &str,
-    others: &[&str],
-    wanted: &str,
-) -> Result<(), Fail> {
-    for value in others {
-        try_value(rt, table, key, value, wanted)?;
-    }
-    let slip = format!(in rt.alloc(); "{key}s")?;
-    let expected = format!(in rt.alloc(); "unknown key `{slip}`")?;
-    try_value(rt, table, slip.as_str(), "1", expected.as_str())
-}
-
-/// The end of what is told of an integer at a key.
-fn try_integer(
-    rt: &(impl Abort + AllocGlobal),
-    table: &str,
-    key: &str,
-    number: i64,
-    expected: &str,
-) -> Result<(), Fail> {
-    let value = format!(in rt.alloc(); "{number}")?;
-    try_value(rt, table, key, value.as_str(), expected)
-}
-
-/// What no key of a number holds.
-const NO_NUMBERS: &[&str] = &["\"1\"", "1.0", "true", "[1]", "{}"];
-
-fn try_number(
-    rt: &(impl Abort + AllocGlobal),
-    table: &str,
-    key: &str,
-    least: i64,
-    most: i64,
-) -> Result<(), Fail> {
-    let behind = if key == "dmx_footprint" {
+fn try_number(rt: &impl Abort, alloc: Global, row: &str) -> Result<(), AllocError> {
+    let (numbers, table) = row.split_once(": ").unwrap_or((row, ""));
+    let mut words = numbers.split(' ');
+    let place = Place {
+        key: words.next().unwrap_or(""),
+        table,
+    };
+    let below = words.next().unwrap_or("");
+    let least = words.next().unwrap_or("");
+    let most = words.next().unwrap_or("");
+    let above = words.next().unwrap_or("");
+    try_values(rt, alloc, place, least, "a fixture");
+    try_values(rt, alloc, place, most, "a fixture");
+    let behind = if place.key == "dmx_footprint" {
         " (the number of slots)"
     } else {
         ""
     };
-    let wanted = format!(in rt.alloc(); "`{key}` isn't an integer from {least} to {most}{behind}")?;
-    try_integer(rt, table, key, least, "")?;
-    try_integer(rt, table, key, most, "")?;
-    try_integer(rt, table, key, least.saturating_sub(1), wanted.as_str())?;
-    try_integer(rt, table, key, most.saturating_add(1), wanted.as_str())?;
-    try_others(rt, table, key, NO_NUMBERS, wanted.as_str())
+    let expected = format!(in alloc;
+        "`{}` isn't an integer from {least} to {most}{behind}",
+        place.key
+    )?;
+    try_values(rt, alloc, place, below, &expected);
+    try_values(rt, alloc, place, above, &expected);
+    try_values(rt, alloc, place, NO_NUMBERS, &expected);
+    try_slip(rt, alloc, place)
 }
 
-/// What no key of a text holds.
-const NO_TEXTS: &[&str] = &[
-    "\"an ASCII text of only 33 letters.\"",
-    "\"\\u007F\"",
-    "1",
-    "[\"a\"]",
-];
-
-fn try_text(rt: &(impl Abort + AllocGlobal), table: &str, key: &str) -> Result<(), Fail> {
-    try_value(rt, table, key, "\"an ASCII text of just 32 letters\"", "")?;
-    let wanted = format!(in rt.alloc();
+fn try_text(rt: &impl Abort, alloc: Global, row: &str) -> Result<(), AllocError> {
+    let (key, table) = row.split_once(": ").unwrap_or((row, ""));
+    let place = Place { key, table };
+    try_values(rt, alloc, place, GOOD_TEXT, "a fixture");
+    let expected = format!(in alloc;
         "`{key}` isn't a string of at most 32 printable ASCII characters"
     )?;
-    try_others(rt, table, key, NO_TEXTS, wanted.as_str())
+    try_values(rt, alloc, place, NO_TEXTS, &expected);
+    try_slip(rt, alloc, place)
 }
 
 #[test]
-fn numbers(rt: HostRuntime) -> Result<(), Fail> {
-    for (table, key, least, most) in NUMBERS {
-        try_number(&rt, table, key, *least, *most)?;
+fn numbers(rt: HostRuntime) {
+    for row in NUMBERS.lines() {
+        try_number(&rt, rt.alloc(), row).expect(&rt, "memory");
     }
-    Ok(())
 }
 
 #[test]
-fn texts(rt: HostRuntime) -> Result<(), Fail> {
-    for (table, key) in TEXTS {
-        try_text(&rt, table, key)?;
+fn texts(rt: HostRuntime) {
+    for row in TEXTS.lines() {
+        try_text(&rt, rt.alloc(), row).expect(&rt, "memory");
     }
-    Ok(())
 }

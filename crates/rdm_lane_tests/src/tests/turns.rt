@@ -1,6 +1,6 @@
 //! A lane of two posts with room for two, turn by turn, on one thread.
 
-ghost use Rattle.std.specs.Prelude.{◌≡◌, IfOk};
+ghost use Rattle.std.specs.Prelude.{◌≡◌};
 ghost use Rattle.rdm_lane.specs.Ends.{IsSamePost};
 
 use super::*;
@@ -39,73 +39,75 @@ const MARK_1: Taken<u32> = Mark { producer: 1 };
 
 #[test]
 fn two_posts_take_turns(rt: HostRuntime) -> Result<(), Fail> {
-    let (mut take, mut zero, one) = lane_of_two(rt.alloc(), 2, 2)?;
-    let one = fills(&rt, &mut zero, one)?;
+    let (mut take, mut zero, one) = lane_of_two(&rt, rt.alloc(), 2, 2);
+    let one = fills(&rt, &mut zero, one);
     gives(&rt, &mut take, &[FIRST]);
-    let one = closed(&rt, one)?;
+    let one = closed(&rt, one);
     gives(&rt, &mut take, &[OTHER]);
-    puts_its_second(&rt, &mut zero);
+    puts(&rt, &mut zero, Y, Ok(1));
     gives(&rt, &mut take, &[MARK_1, SECOND]);
-    is_spent(&rt, &mut zero);
+    puts(&rt, &mut zero, W, Err(Spent(W)));
     gives(&rt, &mut take, &[Empty]);
-    let zero = closed(&rt, zero)?;
+    let zero = closed(&rt, zero);
     gives(&rt, &mut take, &[MARK_0, Taken::Closed, Taken::Closed]);
     let settled = settled_of_two(&rt, rt.alloc(), take, zero, one)?;
-    shows(&rt, &settled);
+    shows(
+        &rt,
+        &settled,
+        &[FIRST, OTHER, MARK_1, SECOND, MARK_0],
+        &[X, Y],
+        &[Z],
+    );
     Ok(())
 }
 
 #[test]
 fn posts_that_put_nothing_close(rt: HostRuntime) -> Result<(), Fail> {
-    let (mut take, zero, one) = lane_of_two(rt.alloc(), 2, 2)?;
+    let (mut take, zero, one) = lane_of_two(&rt, rt.alloc(), 2, 2);
     gives(&rt, &mut take, &[Empty]);
-    let zero = closed(&rt, zero)?;
+    let zero = closed(&rt, zero);
     gives(&rt, &mut take, &[MARK_0, Empty]);
-    let one = closed(&rt, one)?;
+    let one = closed(&rt, one);
     gives(&rt, &mut take, &[MARK_1, Taken::Closed]);
     let settled = settled_of_two(&rt, rt.alloc(), take, zero, one)?;
-    assert_eq!(rt; settled.taken(), [MARK_0, MARK_1].as_slice());
-    assert!(rt; settled.posted(0).is_empty() && settled.posted(1).is_empty());
+    shows(&rt, &settled, &[MARK_0, MARK_1], &[], &[]);
     Ok(())
 }
 
-/// Post 0 and post 1 fill the lane, and the lane refuses a further item and a mark.
-fn fills<R: Wait + Abort>(
+/// A post puts an item, which is numbered or refused.
+fn puts<R: Wait + Abort>(
     rt: &R,
-    zero: &mut Post<u32>,
-    mut one: Post<u32>,
-) -> Result<Post<u32>, Fail>
+    post: &mut Post<u32>,
+    item: u32,
+    answer: Result<u32, PutError<u32>>,
+)
+    ensures { IsSamePost post.old post.new }
+{
+    let is_answer = post.put(rt, item) == answer;
+    assert!(rt; is_answer, "{item}");
+}
+
+/// Post 0 and post 1 fill the lane, and the lane refuses a further item and a mark.
+fn fills<R: Wait + Abort>(rt: &R, zero: &mut Post<u32>, mut one: Post<u32>) -> Post<u32>
     ensures zero { IsSamePost zero.old zero.new }
-    ensures one { IfOk result (λ back. IsSamePost one back) }
+    ensures one { IsSamePost one result }
 {
-    assert_eq!(rt; zero.put(rt, X), Ok(0));
-    assert_eq!(rt; one.put(rt, Z), Ok(0));
-    assert_eq!(rt; zero.put(rt, Y), Err(Full(Y)));
-    Ok(one.close(rt).err().ok_or("room for a mark")?)
+    puts(rt, zero, X, Ok(0));
+    puts(rt, &mut one, Z, Ok(0));
+    puts(rt, zero, Y, Err(Full(Y)));
+    one.close(rt).err().expect(rt, "no room for a mark")
 }
 
-/// Post 0 puts its second item.
-fn puts_its_second<R: Wait + Abort>(rt: &R, zero: &mut Post<u32>)
-    ensures { IsSamePost zero.old zero.new }
-{
-    assert_eq!(rt; zero.put(rt, Y), Ok(1));
-}
-
-/// Post 0 may put no third.
-fn is_spent<R: Wait + Abort>(rt: &R, zero: &mut Post<u32>)
-    ensures { IsSamePost zero.old zero.new }
-{
-    assert_eq!(rt; zero.put(rt, W), Err(Spent(W)));
-}
-
-/// The lists of the ends are those of the turns above.
-fn shows<R: Abort>(rt: &R, settled: &Settled<u32>) {
-    assert_eq!(rt;
-        settled.taken(),
-        [FIRST, OTHER, MARK_1, SECOND, MARK_0].as_slice()
-    );
-    assert_eq!(rt; settled.posted(0), [X, Y].as_slice());
-    assert_eq!(rt; settled.posted(1), [Z].as_slice());
-    assert!(rt; settled.posted(2).is_empty());
-    assert!(rt; settled.posted(3).is_empty());
+/// The lists of the ends are these: what was taken, and what each post put. There is no third post, and no fourth.
+fn shows<R: Abort>(
+    rt: &R,
+    settled: &Settled<u32>,
+    taken: &[Taken<u32>],
+    zero: &[u32],
+    one: &[u32],
+) {
+    let is_taken = settled.taken() == taken;
+    let are_posted = settled.posted(0) == zero && settled.posted(1) == one;
+    let is_all = settled.posted(2).is_empty() && settled.posted(3).is_empty();
+    assert!(rt; is_taken && are_posted && is_all);
 }

@@ -1,22 +1,14 @@
 //! To which fixture a line belongs that names none, and what fixtures said of themselves.
 
-use super::{bytes_of, demo, says};
+use super::{bytes_of, demo, ends_with};
 use rdm_device::Profile;
 use rdm_frame::Uid;
-use rdm_words::{Known, Learned, Question, words};
-use std::test::Fail;
+use rdm_words::{Known, Learned, Question};
+use std::process::Abort;
 
-#[test]
-fn lines_belong_to_the_fixture_that_was_polled(rt: HostRuntime) -> Result<(), Fail> {
-    let profile = Profile::demo(4);
-    let said = words(rt.alloc(), TRACE.as_bytes(), &demo(&profile))?;
-    says(&rt, said.as_slice(), WORDS);
-    Ok(())
-}
-
-/// A message that belongs to nobody; one of a fixture that isn't the one that is known; a message and a report of that one, and of the other
+/// Lines belong to the fixture that was polled: a message that belongs to nobody; one of a fixture that isn't the one that is known; a message and a report of that one, and of the other
 /// one although it was asked last; and a search.
-const TRACE: &str = "message 21 0030 0000 000004800100020000
+pub(super) const TRACE: &str = "message 21 0030 0000 000004800100020000
 # 0.000 s
 send CC01197FF0000000407FF00000000201010000002000200102044B
 reply none
@@ -35,7 +27,7 @@ reply none
 heard ignored
 ";
 
-const WORDS: &str = "recorded: GET response STATUS_MESSAGES (0030), root
+pub(super) const WORDS: &str = "recorded: GET response STATUS_MESSAGES (0030), root
   status: error (04), status ID 8001, values 2 and 0, root
 at 0.000 s
 7FF0:00000002 asks 7FF0:00000040: GET QUEUED_MESSAGE (0020), root, transaction 1
@@ -67,7 +59,7 @@ const ASKED: Uid = Uid {
 };
 
 /// A response of that fixture, what is asked before it is said (the parameter, and with what), what is answered, and the words then.
-const LEARNED: [(&str, u16, &str, &str, &str); 3] = [
+const LEARNED: &[(&str, u16, &str, &str, &str)] = &[
     (
         "CC01217FF0000000027FF00000000500000000002102010900002D0014002D0000046E",
         0x0200,
@@ -92,73 +84,93 @@ const LEARNED: [(&str, u16, &str, &str, &str); 3] = [
 ];
 
 #[test]
-fn fixtures_say_what_their_values_are(rt: HostRuntime) -> Result<(), Fail> {
+fn fixtures_say_what_their_values_are(rt: HostRuntime) {
     for (reply, pid, asked, told, expected) in LEARNED {
         let mut learned = Learned::new(rt.alloc());
-        let bytes = bytes_of(reply);
-        let Some(question) = learned.missing(bytes.as_slice()) else {
-            assert!(rt; false, "nothing is missing of {reply}");
-            return Ok(());
-        };
-        assert_eq!(rt; question.uid, ASKED);
-        assert_eq!(rt; question.pid, pid);
-        assert!(rt; question.data.as_slice() == bytes_of(asked).as_slice());
-        learned.note(&question, Some(bytes_of(told).as_slice()))?;
-        assert!(rt;
-            learned.missing(bytes.as_slice()).is_none(),
-            "asked again: {reply}"
-        );
-        let said = words(rt.alloc(), reply.as_bytes(), &Known::learned(&learned))?;
-        assert!(rt;
-            said.as_slice().ends_with(expected.as_bytes()),
-            "not: {expected}"
-        );
+        learns(&rt, &mut learned, (reply, *pid, asked), told);
+        ends_with(&rt, rt.alloc(), &Known::learned(&learned), reply, expected);
     }
-    Ok(())
 }
 
+/// Before a response is said, a parameter is asked with this, and the answer is noted: then nothing is missing.
+fn learns(
+    rt: &impl Abort,
+    learned: &mut Learned,
+    (reply, pid, asked): (&str, u16, &str),
+    told: &str,
+) {
+    let bytes = bytes_of(reply);
+    let question = learned
+        .missing(bytes.as_slice())
+        .expect(rt, "something is missing");
+    let is_asked = question.uid == ASKED
+        && question.pid == pid
+        && question.data.as_slice() == bytes_of(asked).as_slice();
+    assert!(rt; is_asked, "another question: {reply}");
+    let told = bytes_of(told);
+    learned
+        .note(&question, Some(told.as_slice()))
+        .expect(rt, "memory");
+    let is_missing = learned.missing(bytes.as_slice()).is_some();
+    assert!(rt; !is_missing, "asked again: {reply}");
+}
+
+/// A sensor of two fixtures, of which the first is the demo fixture, and the other has said what it measures.
+const MEASURED: &[(&str, &str)] = &[
+    (
+        "CC01217FF0000000027FF00000000100000000002102010900002D0014002D0000046A",
+        "  sensor 0: 45 °C, lowest 20, highest 45, recorded 0\n",
+    ),
+    (
+        "CC01217FF0000000027FF00000000500000000002102010900002D0014002D0000046E",
+        "  sensor 0: 45 s, lowest 20, highest 45, recorded 0\n",
+    ),
+];
+
 #[test]
-fn what_a_fixture_said_is_its_own(rt: HostRuntime) -> Result<(), Fail> {
+fn what_a_fixture_said_is_its_own(rt: HostRuntime) {
     let mut learned = Learned::new(rt.alloc());
-    let question = Question {
-        uid: ASKED,
-        pid: 0x0200,
-        data: bytes_of("00"),
-    };
-    learned.note(
-        &question,
-        Some(bytes_of("00011500000064000000640041").as_slice()),
-    )?;
+    notes(
+        &rt,
+        &mut learned,
+        0x0200,
+        "00",
+        Some("00011500000064000000640041"),
+    );
     let profile = Profile::demo(4);
     let known = demo(&profile).and_learned(&learned);
-    for (reply, expected) in [
-        (
-            "CC01217FF0000000027FF00000000100000000002102010900002D0014002D0000046A",
-            "  sensor 0: 45 °C, lowest 20, highest 45, recorded 0\n",
-        ),
-        (
-            "CC01217FF0000000027FF00000000500000000002102010900002D0014002D0000046E",
-            "  sensor 0: 45 s, lowest 20, highest 45, recorded 0\n",
-        ),
-    ] {
-        let said = words(rt.alloc(), reply.as_bytes(), &known)?;
-        assert!(rt;
-            said.as_slice().ends_with(expected.as_bytes()),
-            "not: {expected}"
-        );
+    for (reply, expected) in MEASURED {
+        ends_with(&rt, rt.alloc(), &known, reply, expected);
     }
-    let silent = Question {
+}
+
+/// The fixture that is asked says this, or nothing.
+fn notes(rt: &impl Abort, learned: &mut Learned, pid: u16, asked: &str, told: Option<&str>) {
+    let question = Question {
         uid: ASKED,
-        pid: 0x0031,
-        data: bytes_of("8001"),
+        pid,
+        data: bytes_of(asked),
     };
-    learned.note(&silent, None)?;
-    assert!(rt;
-        learned
-            .missing(bytes_of(
-                "CC01217FF0000000027FF00000000500000000002100300900000480010002000004B4"
-            ).as_slice())
-            .is_none()
+    let noted = match told {
+        Some(told) => learned.note(&question, Some(bytes_of(told).as_slice())),
+        None => learned.note(&question, None),
+    };
+    noted.expect(rt, "memory");
+}
+
+/// A fixture that says nothing isn't asked again.
+#[test]
+fn silence_is_noted(rt: HostRuntime) {
+    let mut learned = Learned::new(rt.alloc());
+    notes(
+        &rt,
+        &mut learned,
+        0x0200,
+        "00",
+        Some("00011500000064000000640041"),
     );
-    Ok(())
+    notes(&rt, &mut learned, 0x0031, "8001", None);
+    let reply = "CC01217FF0000000027FF00000000500000000002100300900000480010002000004B4";
+    let is_missing = learned.missing(bytes_of(reply).as_slice()).is_some();
+    assert!(rt; !is_missing);
 }

@@ -1,22 +1,7 @@
 //! Frames as sniffers and people hand them in: of later standards, without their START code, and with something wrong.
 
-use super::says;
-use rdm_words::{Known, words};
-use std::test::Fail;
-
-#[test]
-fn captured_frames_have_their_words(rt: HostRuntime) -> Result<(), Fail> {
-    for row in FRAMES.split("\n\n") {
-        let (line, expected) = row.split_once('\n').unwrap_or((row, ""));
-        let said = words(rt.alloc(), line.as_bytes(), &Known::nothing())?;
-        let expected = format!(in rt.alloc(); "{expected}\n")?;
-        says(&rt, said.as_slice(), expected.as_str());
-    }
-    Ok(())
-}
-
 /// A frame, and its words where nothing is known of a fixture.
-const FRAMES: &str = r#"CC011A7FF0000000021234DEADBEEF000200000021070002000B060D
+pub(super) const FRAMES: &str = r#"CC011A7FF0000000021234DEADBEEF000200000021070002000B060D
 1234:DEADBEEF answers 7FF0:00000002: NACK_REASON action not supported (000B), GET response LIST_INTERFACES (0700), root, transaction 0
 
 CC011A7FF0000000021234DEADBEEF000200000021090602000C0616

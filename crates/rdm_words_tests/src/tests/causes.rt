@@ -5,11 +5,10 @@ use rdm_device::Profile;
 use rdm_frame::Uid;
 use rdm_params::{Entry, Severity};
 use rdm_words::put_cause;
-use std::test::Fail;
 
 /// The device ID of a fixture, the status ID and the two values, and what they say. The demonstration fixture is known, and has device
 /// ID 1.
-const CAUSES: [(u32, u16, u16, u16, &str); 5] = [
+const CAUSES: &[(u32, u16, u16, u16, &str)] = &[
     (1, 0x8001, 2, 0, "Lamp failed to strike (8001)"),
     (2, 0x8001, 2, 0, "status ID 8001"),
     (1, 0x80AB, 0, 0, "status ID 80AB"),
@@ -24,23 +23,22 @@ const CAUSES: [(u32, u16, u16, u16, &str); 5] = [
 ];
 
 #[test]
-fn causes_are_said_by_their_texts(rt: HostRuntime) -> Result<(), Fail> {
+fn causes_are_said_by_their_texts(rt: HostRuntime) {
     let profile = Profile::demo(0);
     for (device, id, v1, v2, expected) in CAUSES {
         let uid = Uid {
             maker: 0x7FF0,
-            device,
+            device: *device,
         };
         let cause = Entry {
             sub: 0,
             severity: Severity::Error,
-            id,
-            v1,
-            v2,
+            id: *id,
+            v1: *v1,
+            v2: *v2,
         };
         let mut said = String::new(rt.alloc());
-        put_cause(&mut said, uid, &cause, &demo(&profile))?;
+        put_cause(&mut said, uid, &cause, &demo(&profile)).expect(&rt, "memory");
         says(&rt, said.as_bytes(), expected);
     }
-    Ok(())
 }

@@ -1,20 +1,14 @@
 //! Parameters of E1.37-1, by what is known of the fixture: numbers in slots, choices, and what is chosen.
 
-use super::says;
+use super::{FIXTURE, is_described, try_rows};
 use rdm_device::{
     ChoiceName, ChoiceNames, Field, OwnParameters, ParameterDef, Particular, Particulars, Profile,
     Rights, Shape, Width,
 };
-use rdm_frame::{Text, Uid};
-use rdm_words::{Known, put_fixture, words};
-use std::alloc::{AllocError, Global};
-use std::test::Fail;
-
-/// The fixture whose frames these are.
-const FIXTURE: Uid = Uid {
-    maker: 0x7FF0,
-    device: 1,
-};
+use rdm_frame::Text;
+use rdm_words::Known;
+use std::alloc::Global;
+use std::process::Abort;
 
 /// A number of so many slots, up to this one, or another one.
 fn number(width: Width, high: u32, also: u32) -> Field {
@@ -46,7 +40,7 @@ fn named(pid: u16, number: u8, hertz: u32, name: Text) -> ChoiceName {
 }
 
 /// The demonstration fixture with a few of the parameters.
-fn rack(alloc: Global) -> Result<Profile, AllocError> {
+fn rack(rt: &impl Abort, alloc: Global) -> Profile {
     let mut own = OwnParameters::none();
     let mut fail_mode = parameter(0x0141, Rights::Both, Shape::Slots(7));
     let _ = fail_mode.fields.try_push(number(Width::Two, 6, 0));
@@ -54,27 +48,35 @@ fn rack(alloc: Global) -> Result<Profile, AllocError> {
     let _ = fail_mode.fields.try_push(number(Width::Two, 600, 0xFFFF));
     let _ = fail_mode.fields.try_push(number(Width::One, 255, 0));
     fail_mode.start = Text::of(&[0, 0, 0, 0, 0xFF, 0xFF, 0xFF]);
-    own.push(alloc, fail_mode)?;
+    own.push(alloc, fail_mode).expect(rt, "memory");
     let mut info = parameter(0x0340, Rights::Get, Shape::Slots(11));
     info.start = Text::of(&[0, 1, 0x7F, 0xFF, 0x80, 0, 0xFF, 0xFE, 3, 12, 1]);
-    own.push(alloc, info)?;
+    own.push(alloc, info).expect(rt, "memory");
     let mut curve = parameter(0x0343, Rights::Both, Shape::Choice);
     curve.low = 1;
     curve.high = 2;
     curve.start = Text::of(&[1]);
-    own.push(alloc, curve)?;
-    own.push(alloc, parameter(0x0344, Rights::Get, Shape::Names))?;
-    own.push(alloc, parameter(0x0348, Rights::Get, Shape::Rates))?;
+    own.push(alloc, curve).expect(rt, "memory");
+    own.push(alloc, parameter(0x0344, Rights::Get, Shape::Names))
+        .expect(rt, "memory");
+    own.push(alloc, parameter(0x0348, Rights::Get, Shape::Rates))
+        .expect(rt, "memory");
     let mut choices = ChoiceNames::none();
-    choices.push(alloc, named(0x0344, 1, 0, Text::of(b"Linear")))?;
-    choices.push(alloc, named(0x0344, 2, 0, Text::of(b"S curve")))?;
-    choices.push(alloc, named(0x0348, 1, 1000, Text::of(b"1 kHz")))?;
+    choices
+        .push(alloc, named(0x0344, 1, 0, Text::of(b"Linear")))
+        .expect(rt, "memory");
+    choices
+        .push(alloc, named(0x0344, 2, 0, Text::of(b"S curve")))
+        .expect(rt, "memory");
+    choices
+        .push(alloc, named(0x0348, 1, 1000, Text::of(b"1 kHz")))
+        .expect(rt, "memory");
     let mut particular = Particular::usual();
     particular.own = own;
     particular.choices = choices;
     let mut profile = Profile::demo(0);
-    profile.particulars = Particulars::of(alloc, particular)?;
-    Ok(profile)
+    profile.particulars = Particulars::of(alloc, particular).expect(rt, "memory");
+    profile
 }
 
 /// A frame, and its words.
@@ -136,19 +138,6 @@ CC01237FF0000000027FF00000000100000000002103400B00017FFF8000FFFE030C01084C
   minimum level 1 to 32767, maximum level 32768 to 65534, curves 3, bits 12, split levels yes (01)
   data 00017FFF8000FFFE030C01"#;
 
-#[test]
-fn numbers_and_choices_have_their_words(rt: HostRuntime) -> Result<(), Fail> {
-    let profile = rack(rt.alloc())?;
-    let known = Known::of(FIXTURE, &profile);
-    for row in FRAMES.split("\n\n") {
-        let (frame, expected) = row.split_once('\n').unwrap_or((row, ""));
-        let said = words(rt.alloc(), frame.as_bytes(), &known)?;
-        let expected = format!(in rt.alloc(); "{expected}\n")?;
-        says(&rt, said.as_slice(), expected.as_str());
-    }
-    Ok(())
-}
-
 /// What is said of the fixture itself, behind its boot software.
 const ADDED: &str = r#"
   parameter 0141: "", 7 slots (0 to 6; 0 to 600 or 65535; 0 to 600 or 65535; 0 to 255), GET and SET, default 00000000FFFFFF
@@ -163,11 +152,9 @@ no sub-devices
 "#;
 
 #[test]
-fn a_fixture_has_numbers_and_choices(rt: HostRuntime) -> Result<(), Fail> {
-    let profile = rack(rt.alloc())?;
-    let mut said = Vec::new(rt.alloc());
-    put_fixture(&mut said, FIXTURE, &profile, &[])?;
-    let text = std::str::from_utf8(said.as_slice()).unwrap_or("");
-    assert!(rt; text.ends_with(ADDED), "{text}");
-    Ok(())
+fn numbers_and_choices_have_their_words(rt: HostRuntime) {
+    let profile = rack(&rt, rt.alloc());
+    let known = Known::of(FIXTURE, &profile);
+    try_rows(&rt, rt.alloc(), &known, "", FRAMES);
+    is_described(&rt, rt.alloc(), &profile, ADDED);
 }

@@ -1,15 +1,7 @@
 //! Frames with other headers, the lines of a trace, and lines that are neither.
 
-use super::try_rows;
-use std::test::Fail;
-
-#[test]
-fn lines_have_their_words(rt: HostRuntime) -> Result<(), Fail> {
-    try_rows(&rt, "", LINES)
-}
-
 /// A line, and its words.
-const LINES: &str = "CC011A7FF0000000027FF0000000010001000000210403020019040C
+pub(super) const LINES: &str = "CC011A7FF0000000027FF0000000010001000000210403020019040C
 7FF0:00000001 answers 7FF0:00000002: ACK_TIMER 2.5 s, GET response LAMP_STATE (0403), root, transaction 0
 
 CC011A7FF0000000027FF000000001000000000021008202417F052D

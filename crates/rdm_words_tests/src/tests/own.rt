@@ -2,18 +2,13 @@
 
 ghost use Rattle.std.specs.Prelude.{◌≤◌, length};
 
-use super::{bytes_of, says};
+use super::short::{try_replies, try_requests};
+use super::{FIXTURE, is_described, try_rows};
 use rdm_device::{OwnParameters, ParameterDef, Particular, Particulars, Profile, Rights, Shape};
 use rdm_frame::{Text, Uid};
-use rdm_words::{Known, put_fixture, put_reply_words, put_request_words, words};
-use std::alloc::{AllocError, Global};
-use std::test::Fail;
-
-/// The fixture whose frames these are.
-const FIXTURE: Uid = Uid {
-    maker: 0x7FF0,
-    device: 1,
-};
+use rdm_words::Known;
+use std::alloc::Global;
+use std::process::Abort;
 
 /// A parameter with GET and SET, of this name.
 fn parameter(pid: u16, shape: Shape, name: &[u8]) -> ParameterDef
@@ -28,36 +23,36 @@ fn parameter(pid: u16, shape: Shape, name: &[u8]) -> ParameterDef
 }
 
 /// The demonstration fixture with four parameters of its own.
-fn wash(alloc: Global) -> Result<Profile, AllocError> {
+fn wash(rt: &impl Abort, alloc: Global) -> Profile {
     let mut own = OwnParameters::none();
     let mut colour = parameter(0x8001, Shape::Word, b"Colour temperature");
     colour.low = 2000;
     colour.high = 8000;
     colour.start = Text::of(&[0x15, 0xE0]);
     colour.resets = true;
-    own.push(alloc, colour)?;
+    own.push(alloc, colour).expect(rt, "memory");
     let mut trim = parameter(0x8010, Shape::SignedByte, b"Trim");
     trim.low = -20;
     trim.high = 20;
     trim.start = Text::of(&[0xFF]);
     trim.unit = 0x16;
     trim.prefix = 0x03;
-    own.push(alloc, trim)?;
+    own.push(alloc, trim).expect(rt, "memory");
     let mut show = parameter(0x8020, Shape::Text, b"Show");
     show.rights = Rights::Set;
     show.start = Text::of(b"Tour");
-    own.push(alloc, show)?;
+    own.push(alloc, show).expect(rt, "memory");
     let mut flags = parameter(0x8030, Shape::Bits(2), b"Flags");
     flags.rights = Rights::Get;
     flags.start = Text::of(&[0x01, 0x80]);
-    own.push(alloc, flags)?;
+    own.push(alloc, flags).expect(rt, "memory");
     let mut particular = Particular::usual();
     particular.own = own;
     let _ = particular.without.try_push(0x0403);
     particular.more_slots = 7;
     let mut profile = Profile::demo(0);
-    profile.particulars = Particulars::of(alloc, particular)?;
-    Ok(profile)
+    profile.particulars = Particulars::of(alloc, particular).expect(rt, "memory");
+    profile
 }
 
 /// A frame, and its words: the value of a parameter stands above the data, if it is a number or a text.
@@ -132,76 +127,6 @@ CC011E7FF0000000027FF00000000100000000002100500600518001804005D5
   supports "Colour temperature" (8001)
   supports 8040"#;
 
-#[test]
-fn own_parameters_have_their_words(rt: HostRuntime) -> Result<(), Fail> {
-    let profile = wash(rt.alloc())?;
-    let known = Known::of(FIXTURE, &profile);
-    for row in FRAMES.split("\n\n") {
-        let (frame, expected) = row.split_once('\n').unwrap_or((row, ""));
-        let said = words(rt.alloc(), frame.as_bytes(), &known)?;
-        let expected = format!(in rt.alloc(); "{expected}\n")?;
-        says(&rt, said.as_slice(), expected.as_str());
-    }
-    Ok(())
-}
-
-/// Nothing is known of another device, nor of one that is known by nothing.
-#[test]
-fn unknown_parameters_have_none(rt: HostRuntime) -> Result<(), Fail> {
-    let frame = b"CC011A7FF0000000017FF0000000020001000000308001020FA0052B";
-    let expected =
-        "7FF0:00000002 asks 7FF0:00000001: SET parameter 8001, root, transaction 0\n  data 0FA0\n";
-    let said = words(rt.alloc(), frame.as_slice(), &Known::nothing())?;
-    says(&rt, said.as_slice(), expected);
-    let profile = wash(rt.alloc())?;
-    let other = Uid {
-        maker: 0x7FF0,
-        device: 3,
-    };
-    let said = words(rt.alloc(), frame.as_slice(), &Known::of(other, &profile))?;
-    says(&rt, said.as_slice(), expected);
-    Ok(())
-}
-
-#[test]
-fn own_parameters_in_short(rt: HostRuntime) -> Result<(), Fail> {
-    let profile = wash(rt.alloc())?;
-    let known = Known::of(FIXTURE, &profile);
-    for (frame, expected) in [
-        (
-            "CC011A7FF0000000017FF0000000020001000000308001020FA0052B",
-            "SET \"Colour temperature\": 4000",
-        ),
-        (
-            "CC01197FF0000000017FF0000000020001000000308040010104BA",
-            "SET 8040: data 01",
-        ),
-        (
-            "CC011A7FF0000000017FF000000002000100000020005102800104BD",
-            "GET PARAMETER_DESCRIPTION: \"Colour temperature\" (8001)",
-        ),
-    ] {
-        let mut said = Vec::new(rt.alloc());
-        put_request_words(&mut said, bytes_of(frame).as_slice(), &known)?;
-        says(&rt, said.as_slice(), expected);
-    }
-    for (frame, expected) in [
-        (
-            "CC011A7FF0000000027FF00000000100000000002180010215E00561",
-            "ACK \"Colour temperature\": 5600",
-        ),
-        (
-            "CC01187FF0000000027FF0000000010000000000318001000478",
-            "ACK \"Colour temperature\"",
-        ),
-    ] {
-        let mut said = Vec::new(rt.alloc());
-        put_reply_words(&mut said, bytes_of(frame).as_slice(), &known)?;
-        says(&rt, said.as_slice(), expected);
-    }
-    Ok(())
-}
-
 /// What is said of the fixture itself, behind its boot software.
 const ADDED: &str = r#"  7 slots more than those above
   parameter 8001: "Colour temperature", unsigned word, GET and SET, 2000 to 8000, default 5600, set back by FACTORY_DEFAULTS
@@ -212,12 +137,42 @@ const ADDED: &str = r#"  7 slots more than those above
 no sub-devices
 "#;
 
+/// Nothing is known of another device, nor of one that is known by nothing.
+const UNKNOWN: &str = "CC011A7FF0000000017FF0000000020001000000308001020FA0052B
+7FF0:00000002 asks 7FF0:00000001: SET parameter 8001, root, transaction 0
+  data 0FA0";
+
+/// Requests in short.
+const REQUESTS: &str = r#"CC011A7FF0000000017FF0000000020001000000308001020FA0052B
+SET "Colour temperature": 4000
+
+CC01197FF0000000017FF0000000020001000000308040010104BA
+SET 8040: data 01
+
+CC011A7FF0000000017FF000000002000100000020005102800104BD
+GET PARAMETER_DESCRIPTION: "Colour temperature" (8001)"#;
+
+/// Replies in short.
+const REPLIES: &str = r#"CC011A7FF0000000027FF00000000100000000002180010215E00561
+ACK "Colour temperature": 5600
+
+CC01187FF0000000027FF0000000010000000000318001000478
+ACK "Colour temperature""#;
+
+/// Another device.
+const OTHER: Uid = Uid {
+    maker: 0x7FF0,
+    device: 3,
+};
+
 #[test]
-fn a_fixture_has_its_own_parameters(rt: HostRuntime) -> Result<(), Fail> {
-    let profile = wash(rt.alloc())?;
-    let mut said = Vec::new(rt.alloc());
-    put_fixture(&mut said, FIXTURE, &profile, &[])?;
-    let text = std::str::from_utf8(said.as_slice()).unwrap_or("");
-    assert!(rt; text.ends_with(ADDED), "{text}");
-    Ok(())
+fn own_parameters_have_their_words(rt: HostRuntime) {
+    let profile = wash(&rt, rt.alloc());
+    let known = Known::of(FIXTURE, &profile);
+    try_rows(&rt, rt.alloc(), &known, "", FRAMES);
+    try_requests(&rt, rt.alloc(), &known, REQUESTS);
+    try_replies(&rt, rt.alloc(), &known, REPLIES);
+    try_rows(&rt, rt.alloc(), &Known::nothing(), "", UNKNOWN);
+    try_rows(&rt, rt.alloc(), &Known::of(OTHER, &profile), "", UNKNOWN);
+    is_described(&rt, rt.alloc(), &profile, ADDED);
 }

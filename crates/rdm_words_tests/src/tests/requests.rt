@@ -1,15 +1,7 @@
 //! The requests of all parameters, from the fields of the standard's sections 10.3 to 10.11.
 
-use super::try_rows;
-use std::test::Fail;
-
-#[test]
-fn requests_of_all_parameters(rt: HostRuntime) -> Result<(), Fail> {
-    try_rows(&rt, "7FF0:00000002 asks 7FF0:00000001: ", REQUESTS)
-}
-
 /// A frame, and its words behind those of who asks whom.
-const REQUESTS: &str = "CC01197FF0000000017FF00000000200010000002000200102040B
+pub(super) const REQUESTS: &str = "CC01197FF0000000017FF00000000200010000002000200102040B
 GET QUEUED_MESSAGE (0020), root, transaction 0
   status type advisory (02)
 

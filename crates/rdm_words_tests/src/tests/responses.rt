@@ -1,15 +1,7 @@
 //! The responses of all parameters, from the fields of the standard's sections 10.3 to 10.11.
 
-use super::try_rows;
-use std::test::Fail;
-
-#[test]
-fn responses_of_all_parameters(rt: HostRuntime) -> Result<(), Fail> {
-    try_rows(&rt, "7FF0:00000001 answers 7FF0:00000002: ", RESPONSES)
-}
-
 /// A frame, and its words behind those of who answers whom.
-const RESPONSES: &str =
+pub(super) const RESPONSES: &str =
     "CC01337FF0000000027FF00000000100000000002100301B000004800100020000000513002100010050FFFF424321FFFF00030A03
 ACK, GET response STATUS_MESSAGES (0030), root, transaction 0
   status: error (04), Lamp failed to strike (8001), values 2 and 0, root

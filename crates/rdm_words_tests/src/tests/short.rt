@@ -1,36 +1,30 @@
 //! What stands at the arrows of a picture.
 
-use super::{bytes_of, demo, says};
-use rdm_device::Profile;
-use rdm_words::{put_reply_words, put_request_words};
-use std::test::Fail;
+use super::{bytes_of, says};
+use rdm_words::{Known, put_reply_words, put_request_words};
+use std::alloc::Global;
+use std::process::Abort;
 
-#[test]
-fn requests_in_short(rt: HostRuntime) -> Result<(), Fail> {
-    let profile = Profile::demo(4);
-    for row in REQUESTS.split("\n\n") {
+pub(super) fn try_requests(rt: &impl Abort, alloc: Global, known: &Known<'_>, rows: &str) {
+    for row in rows.split("\n\n") {
         let (frame, expected) = row.split_once('\n').unwrap_or((row, ""));
-        let mut said = Vec::new(rt.alloc());
-        put_request_words(&mut said, bytes_of(frame).as_slice(), &demo(&profile))?;
-        says(&rt, said.as_slice(), expected);
+        let mut said = Vec::new(alloc);
+        put_request_words(&mut said, bytes_of(frame).as_slice(), known).expect(rt, "memory");
+        says(rt, said.as_slice(), expected);
     }
-    Ok(())
 }
 
-#[test]
-fn replies_in_short(rt: HostRuntime) -> Result<(), Fail> {
-    let profile = Profile::demo(4);
-    for row in REPLIES.split("\n\n") {
+pub(super) fn try_replies(rt: &impl Abort, alloc: Global, known: &Known<'_>, rows: &str) {
+    for row in rows.split("\n\n") {
         let (frame, expected) = row.split_once('\n').unwrap_or((row, ""));
-        let mut said = Vec::new(rt.alloc());
-        put_reply_words(&mut said, bytes_of(frame).as_slice(), &demo(&profile))?;
-        says(&rt, said.as_slice(), expected);
+        let mut said = Vec::new(alloc);
+        put_reply_words(&mut said, bytes_of(frame).as_slice(), known).expect(rt, "memory");
+        says(rt, said.as_slice(), expected);
     }
-    Ok(())
 }
 
 /// A request, and its words.
-const REQUESTS: &str = "CC01187FF0000000017FF0000000020001000000200060000447
+pub(super) const REQUESTS: &str = "CC01187FF0000000017FF0000000020001000000200060000447
 GET DEVICE_INFO
 
 CC011A7FF0000000017FF00000000200010000003000F00200650550
@@ -53,7 +47,7 @@ no frame: fewer bytes than the shortest frame";
 
 /// A reply, and its words. The words of its data are there if they have at most 64 bytes: those of the three labels have 82,
 /// 64 and 65.
-const REPLIES: &str = "CC01187FF0000000027FF00000000100000000003100F00004E7
+pub(super) const REPLIES: &str = "CC01187FF0000000027FF00000000100000000003100F00004E7
 ACK DMX_START_ADDRESS
 
 CC01197FF0000000027FF0000000010000000000210403010103F1

@@ -1,9 +1,8 @@
 //! What is said of the slow commands of a fixture.
 
+use super::FIXTURE;
 use rdm_device::{Estimates, Particular, Particulars, Profile, Worker, Workers};
-use rdm_frame::Uid;
 use rdm_words::put_fixture;
-use std::test::Fail;
 
 /// What is said of the fixture itself, behind its boot software.
 const SLOW: &str = r#"  LAMP_STATE takes about 6553.5 s
@@ -15,7 +14,7 @@ no sub-devices
 "#;
 
 #[test]
-fn what_is_not_as_usual_is_said(rt: HostRuntime) -> Result<(), Fail> {
+fn what_is_not_as_usual_is_said(rt: HostRuntime) {
     let mut particular = Particular::usual();
     particular.estimates = Estimates {
         lamp: 65535,
@@ -24,7 +23,7 @@ fn what_is_not_as_usual_is_said(rt: HostRuntime) -> Result<(), Fail> {
         ..Estimates::usual()
     };
     let mut profile = Profile::demo(0);
-    profile.particulars = Particulars::of(rt.alloc(), particular)?;
+    profile.particulars = Particulars::of(rt.alloc(), particular).expect(&rt, "memory");
     profile.workers = Workers {
         power: Worker::Second,
         self_test: Worker::First,
@@ -33,22 +32,17 @@ fn what_is_not_as_usual_is_said(rt: HostRuntime) -> Result<(), Fail> {
     if let Some(sensor) = profile.sensors.as_mut_slice().get_mut(1) {
         sensor.at_once = true;
     }
-    let uid = Uid {
-        maker: 0x7FF0,
-        device: 1,
-    };
     let mut said = Vec::new(rt.alloc());
-    put_fixture(&mut said, uid, &profile, &[])?;
+    put_fixture(&mut said, FIXTURE, &profile, &[]).expect(&rt, "memory");
     let text = std::str::from_utf8(said.as_slice()).unwrap_or("");
-    assert!(rt; text.ends_with(SLOW), "{text}");
-    assert!(rt; text.contains("answered at once"), "{text}");
-    for line in text.lines() {
-        if line.ends_with("answered at once") {
-            assert!(rt;
-                line.starts_with("  sensor 1: \"Head temperature\""),
-                "{line}"
-            );
-        }
-    }
-    Ok(())
+    assert!(rt; text.ends_with(SLOW) && is_one_at_once(text), "{text}");
+}
+
+/// Whether it is said that sensors are answered at once, and of no other sensor than this one.
+fn is_one_at_once(text: &str) -> bool {
+    let mut lines = text
+        .lines()
+        .filter(|line| line.ends_with("answered at once"));
+    text.contains("answered at once")
+        && lines.all(|line| line.starts_with("  sensor 1: \"Head temperature\""))
 }

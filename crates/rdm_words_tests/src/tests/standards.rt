@@ -1,20 +1,14 @@
 //! The standards' parameters that a fixture adds: their data by their fields, and what is said of the fixture.
 
-use super::says;
+use super::{FIXTURE, is_described, try_rows};
 use rdm_device::{
     ChoiceName, ChoiceNames, Lock, Locks, OwnParameters, ParameterDef, Particular, Particulars,
     Profile, Rights, Shape,
 };
-use rdm_frame::{Text, Uid};
-use rdm_words::{Known, put_fixture, words};
-use std::alloc::{AllocError, Global};
-use std::test::Fail;
-
-/// The fixture whose frames these are.
-const FIXTURE: Uid = Uid {
-    maker: 0x7FF0,
-    device: 1,
-};
+use rdm_frame::Text;
+use rdm_words::Known;
+use std::alloc::Global;
+use std::process::Abort;
 
 /// A parameter with these commands, with numbers between these.
 fn parameter(pid: u16, rights: Rights, shape: Shape, low: i64, high: i64) -> ParameterDef {
@@ -28,40 +22,47 @@ fn parameter(pid: u16, rights: Rights, shape: Shape, low: i64, high: i64) -> Par
 }
 
 /// The demonstration fixture with orders, counts, scenes and locks.
-fn rack(alloc: Global) -> Result<Profile, AllocError> {
+fn rack(rt: &impl Abort, alloc: Global) -> Profile {
     let mut own = OwnParameters::none();
     let mut counts = parameter(0x0015, Rights::Clear, Shape::Slots(6), 0, 0);
     counts.start = Text::of(&[0; 6]);
-    own.push(alloc, counts)?;
-    own.push(alloc, parameter(0x0140, Rights::Both, Shape::Block, 0, 0))?;
+    own.push(alloc, counts).expect(rt, "memory");
+    own.push(alloc, parameter(0x0140, Rights::Both, Shape::Block, 0, 0))
+        .expect(rt, "memory");
     let mut pin = parameter(0x0640, Rights::Both, Shape::Pin, 0, 9999);
     pin.start = Text::of(&[0x01, 0xB7]);
-    own.push(alloc, pin)?;
+    own.push(alloc, pin).expect(rt, "memory");
     let mut state = parameter(0x0641, Rights::Both, Shape::Lock, 0, 2);
     state.start = Text::of(&[0]);
-    own.push(alloc, state)?;
-    own.push(alloc, parameter(0x0642, Rights::Get, Shape::Names, 0, 0))?;
+    own.push(alloc, state).expect(rt, "memory");
+    own.push(alloc, parameter(0x0642, Rights::Get, Shape::Names, 0, 0))
+        .expect(rt, "memory");
     let mut reset = parameter(0x1001, Rights::Set, Shape::Slots(1), 0, 0);
     reset.start = Text::of(&[1]);
-    own.push(alloc, reset)?;
-    own.push(alloc, parameter(0x1042, Rights::Both, Shape::Scenes, 2, 6))?;
+    own.push(alloc, reset).expect(rt, "memory");
+    own.push(alloc, parameter(0x1042, Rights::Both, Shape::Scenes, 2, 6))
+        .expect(rt, "memory");
     let mut calibrate = parameter(0x8001, Rights::Set, Shape::Byte, 1, 5);
     calibrate.name = Text::of(b"Calibrate");
     calibrate.start = Text::of(&[1]);
-    own.push(alloc, calibrate)?;
+    own.push(alloc, calibrate).expect(rt, "memory");
     let mut choices = ChoiceNames::none();
-    choices.push(alloc, named(1, Text::of(b"Levels")))?;
-    choices.push(alloc, named(2, Text::of(b"Everything")))?;
+    choices
+        .push(alloc, named(1, Text::of(b"Levels")))
+        .expect(rt, "memory");
+    choices
+        .push(alloc, named(2, Text::of(b"Everything")))
+        .expect(rt, "memory");
     let mut locks = Locks::none();
-    locks.push(alloc, locked(1, 0x00F0))?;
-    locks.push(alloc, locked(2, 0x8001))?;
+    locks.push(alloc, locked(1, 0x00F0)).expect(rt, "memory");
+    locks.push(alloc, locked(2, 0x8001)).expect(rt, "memory");
     let mut profile = Profile::demo(0);
     let mut particular = Particular::usual();
     particular.own = own;
     particular.choices = choices;
     particular.locks = locks;
-    profile.particulars = Particulars::of(alloc, particular)?;
-    Ok(profile)
+    profile.particulars = Particulars::of(alloc, particular).expect(rt, "memory");
+    profile
 }
 
 /// What a lock state is called.
@@ -251,32 +252,11 @@ CC01387FF0000000027FF00000000100000000002110412001000100000000060000000A00000014
   level field yes (01), sequence no (00), split times yes (01), endless fail delay no (00), endless fail hold no (00), endless startup hold no (00), scenes 6, fade 0.0 s to 1.0 s, wait 0.0 s to 2.0 s, fail delay 0.0 s to 10.0 s, fail hold 0.0 s to 10.0 s, startup delay 0.0 s to 10.0 s, startup hold 0.0 s to 20.0 s
   data 01000100000000060000000A00000014000000640000006400000064000000C8"#;
 
-#[test]
-fn added_parameters_have_their_fields(rt: HostRuntime) -> Result<(), Fail> {
-    let profile = rack(rt.alloc())?;
-    let known = Known::of(FIXTURE, &profile);
-    for row in FRAMES.split("\n\n") {
-        let (frame, expected) = row.split_once('\n').unwrap_or((row, ""));
-        let said = words(rt.alloc(), frame.as_bytes(), &known)?;
-        let expected = format!(in rt.alloc(); "{expected}\n")?;
-        says(&rt, said.as_slice(), expected.as_str());
-    }
-    Ok(())
-}
-
 /// The fields are the standard's, whichever fixture it is; but what lock states are called isn't known.
-#[test]
-fn those_of_an_unknown_fixture_have_them_too(rt: HostRuntime) -> Result<(), Fail> {
-    let frame = "CC011A7FF0000000027FF00000000100000000002106410202020436";
-    let expected =
-        "7FF0:00000001 answers 7FF0:00000002: ACK, GET response LOCK_STATE (0641), root, transaction 0
+const UNKNOWN: &str = "CC011A7FF0000000027FF00000000100000000002106410202020436
+7FF0:00000001 answers 7FF0:00000002: ACK, GET response LOCK_STATE (0641), root, transaction 0
   lock state 2 of 2
-  data 0202
-";
-    let said = words(rt.alloc(), frame.as_bytes(), &Known::nothing())?;
-    says(&rt, said.as_slice(), expected);
-    Ok(())
-}
+  data 0202";
 
 /// What is said of the fixture itself, behind its boot software.
 const ADDED: &str = r#"
@@ -296,11 +276,10 @@ no sub-devices
 "#;
 
 #[test]
-fn a_fixture_has_orders_scenes_and_locks(rt: HostRuntime) -> Result<(), Fail> {
-    let profile = rack(rt.alloc())?;
-    let mut said = Vec::new(rt.alloc());
-    put_fixture(&mut said, FIXTURE, &profile, &[])?;
-    let text = std::str::from_utf8(said.as_slice()).unwrap_or("");
-    assert!(rt; text.ends_with(ADDED), "{text}");
-    Ok(())
+fn added_parameters_have_their_fields(rt: HostRuntime) {
+    let profile = rack(&rt, rt.alloc());
+    let known = Known::of(FIXTURE, &profile);
+    try_rows(&rt, rt.alloc(), &known, "", FRAMES);
+    try_rows(&rt, rt.alloc(), &Known::nothing(), "", UNKNOWN);
+    is_described(&rt, rt.alloc(), &profile, ADDED);
 }

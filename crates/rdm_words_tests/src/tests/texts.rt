@@ -1,10 +1,11 @@
 //! Whole texts: a trace that is cut anywhere, and bytes that are no text.
 
-use super::bytes_of;
+use super::{bytes_of, ends_with, says};
 use rdm_frame::decode;
 use rdm_trace::read;
 use rdm_words::{Known, words};
-use std::test::Fail;
+use std::alloc::{AllocError, Global};
+use std::process::Abort;
 
 /// A trace with each kind of line.
 const TRACE: &str = "panel start 101
@@ -23,19 +24,18 @@ end
 
 /// However many bytes of the trace are there, each line that has begun has its words, and no line is lost.
 #[test]
-fn trace_cut_anywhere(rt: HostRuntime) -> Result<(), Fail> {
+fn trace_cut_anywhere(rt: HostRuntime) {
     let trace = TRACE.as_bytes();
     for cut in 0..trace.len() {
-        let front = &trace[..cut];
-        let said = words(rt.alloc(), front, &Known::nothing())?;
-        let lines = line_count(front);
-        assert!(rt; line_count(said.as_slice()) >= lines, "cut at {cut}");
-        assert!(rt;
-            said.as_slice().ends_with(b"\n") == (cut > 0),
-            "cut at {cut}"
-        );
+        assert!(rt; is_said(&rt, rt.alloc(), &trace[..cut]), "cut at {cut}");
     }
-    Ok(())
+}
+
+/// Whether each line of a text has its words.
+fn is_said(rt: &impl Abort, alloc: Global, text: &[u8]) -> bool {
+    let said = words(alloc, text, &Known::nothing()).expect(rt, "memory");
+    line_count(said.as_slice()) >= line_count(text)
+        && said.as_slice().ends_with(b"\n") != text.is_empty()
 }
 
 /// How many lines a text has, the last one without LF too.
@@ -59,18 +59,15 @@ fn every_line_of_the_trace_is_read(rt: HostRuntime) {
 }
 
 #[test]
-fn bytes_that_are_no_text(rt: HostRuntime) -> Result<(), Fail> {
-    let said = words(rt.alloc(), b"\xFF\x00\x1B[2J\r\n\r\n\r", &Known::nothing())?;
-    super::says(
-        &rt,
-        said.as_slice(),
-        "not read: \\xFF\\x00\\x1B[2J\n\nnot read: \\x0D\n",
-    );
-    Ok(())
+fn bytes_that_are_no_text(rt: HostRuntime) {
+    let said = words(rt.alloc(), b"\xFF\x00\x1B[2J\r\n\r\n\r", &Known::nothing());
+    let said = said.expect(&rt, "memory");
+    let expected = "not read: \\xFF\\x00\\x1B[2J\n\nnot read: \\x0D\n";
+    says(&rt, said.as_slice(), expected);
 }
 
 /// Bytes that fail each of the six tests of a frame, in their order.
-const STRAYS: [&str; 6] = [
+const STRAYS: &[&str] = &[
     "CC01187FF0",
     "0001187FF0000000017FF000000009000100000020006000044E",
     "CC02187FF0000000017FF000000009000100000020006000044E",
@@ -81,18 +78,17 @@ const STRAYS: [&str; 6] = [
 
 /// Why bytes are no frame is said in the words of rdm_frame's error.
 #[test]
-fn causes_are_those_of_the_error(rt: HostRuntime) -> Result<(), Fail> {
+fn causes_are_those_of_the_error(rt: HostRuntime) {
     for digits in STRAYS {
-        let read = decode(bytes_of(digits).as_slice());
-        assert!(rt; read.is_err(), "{digits} is a frame");
-        if let Err(error) = read {
-            let said = words(rt.alloc(), digits.as_bytes(), &Known::nothing())?;
-            let expected = format!(in rt.alloc(); "no frame ({error}): {digits}\n")?;
-            assert!(rt;
-                said.as_slice().ends_with(expected.as_bytes()),
-                "{expected}"
-            );
-        }
+        let expected = stray_words(rt.alloc(), digits).expect(&rt, "memory");
+        ends_with(&rt, rt.alloc(), &Known::nothing(), digits, &expected);
     }
-    Ok(())
+}
+
+/// What is said of bytes that are no frame.
+fn stray_words(alloc: Global, digits: &str) -> Result<String, AllocError> {
+    match decode(bytes_of(digits).as_slice()) {
+        Ok(_) => String::from_str(alloc, "they are a frame"),
+        Err(error) => format!(in alloc; "no frame ({error}): {digits}\n"),
+    }
 }
