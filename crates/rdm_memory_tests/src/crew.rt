@@ -47,6 +47,7 @@ impl Drop for Hand {
 
 impl Part for Hand {
     ghost gives = { λ part job outcome. ends job.work.verb outcome ≡ true };
+
     ghost gives_after = { λ part before job outcome. ends job.work.verb outcome ≡ true };
 
     fn work(&mut self, job: &Job) -> Outcome {

@@ -18,6 +18,7 @@ pub(crate) struct Quick;
 
 impl Part for Quick {
     ghost gives = { λ part job outcome. ends job.work.verb outcome ≡ true };
+
     ghost gives_after = { λ part before job outcome. ends job.work.verb outcome ≡ true };
 
     fn work(&mut self, job: &Job) -> Outcome {
@@ -36,6 +37,7 @@ impl<R: Clock + Drop> Part for Slow<R> {
     ghost use Rattle.rdm_params.specs.Jobs.Outcome.{ends};
 
     ghost gives = { λ part job outcome. ends job.work.verb outcome ≡ true };
+
     ghost gives_after = { λ part before job outcome. ends job.work.verb outcome ≡ true };
 
     fn work(&mut self, job: &Job) -> Outcome {

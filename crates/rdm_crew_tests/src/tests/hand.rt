@@ -42,6 +42,7 @@ impl Part for Hand {
     ghost use Rattle.rdm_params.specs.Jobs.Outcome.{ends};
 
     ghost gives = { λ part job outcome. ends job.work.verb outcome ≡ true };
+
     ghost gives_after = { λ part before job outcome. ends job.work.verb outcome ≡ true };
 
     fn work(&mut self, job: &Job) -> Outcome {
