@@ -5,7 +5,7 @@ use Rattle.rdm_frame.specs.FrameText.{frame_text}
 use Rattle.rdm_collector.specs.declared.port.PortError.{PortError}
 use Rattle.rdm_collector.specs.declared.command.Command.{Command}
 use Rattle.rdm_collector.specs.declared.any_device.collected.Collected.{Collected}
-use Rattle.rdm_collector.specs.Collecting.{command_request, poll_request, refusal_of}
+use Rattle.rdm_collector.specs.Sending.{command_request, poll_request, refusal_of}
 use Rattle.rdm_collector.specs.AnyDevice.Collecting.{DeviceState, after_ask, after_poll, sender}
 use Rattle.rdm_console.specs.declared.mailbox.Sorted.{Sorted}
 use Rattle.rdm_console.specs.declared.mailbox.Came.{Came}

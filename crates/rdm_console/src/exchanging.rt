@@ -1,7 +1,7 @@
 //! A request is sent through a port, and what comes of it is heard.
 
 ghost use Rattle.std.specs.Prelude.{◌≡◌, ◌↔◌, Some, None, Err, IsSome, IfOk, IfErr};
-ghost use Rattle.rdm_collector.specs.Collecting.{refusal_of};
+ghost use Rattle.rdm_collector.specs.Sending.{refusal_of};
 ghost use Rattle.rdm_collector.specs.AnyDevice.Collecting.{sender};
 ghost use Rattle.rdm_console.specs.Exchanges.{FailsAsking, HasFailedOnce, HasGoneWrong, IsAnswered, IsAskedAgain, IsSentOnce, reply_as, turn};
 
