@@ -89,10 +89,6 @@ def ones(bits, value):
     return cut(f"ones_in({value})", bits)
 
 
-def compared(bits, one, other):
-    return f"{one} < {other} ? {number('-1', f'i{bits}')} : {one} > {other}"
-
-
 FORMS = {
     "bswap": swapped,
     "umin": lesser,

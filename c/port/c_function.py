@@ -242,7 +242,7 @@ class Body:
         copies = [it for it in copies if it[0] != it[2]]
         written, kept, steps = set(), [], []
         for index, (name, kind, value) in enumerate(copies):
-            if value in written:
+            if written & set(re.findall(r"\bx\d+\b", value)):
                 kept.append(f"{spaced(self.module.types.name(kind))}kept{index} = {value};")
                 value = f"kept{index}"
             steps.append(f"{name} = {value};")

@@ -7,11 +7,11 @@
 #include "felosumay.h"
 #include <string.h>
 
+#define HELPER static inline
 #if defined __GNUC__ && !defined FELOSUMAY_PLAIN
 #define MEMORY(name, size, align) uint8_t name[size] __attribute__((aligned(align)))
 #define CONSTANT(align) static const __attribute__((aligned(align)))
 #define STOP() __builtin_trap()
-#define HELPER static inline __attribute__((unused))
 #define AT(bits, align) uint##bits##_t __attribute__((may_alias, aligned(align)))
 #define GET(bits, align) \
     HELPER uint##bits##_t get##bits##_##align(const uint8_t *at) { \
@@ -26,7 +26,6 @@
 #else
 #define MEMORY(name, size, align) uint64_t name[((size) + 7) / 8]
 #define CONSTANT(align) static const
-#define HELPER static inline
 #define STOP() \
     for (;;) { \
     }
