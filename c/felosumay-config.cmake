@@ -1,6 +1,6 @@
-# For find_package(felosumay). On Linux: the targets felosumay::felosumay, the shared library, and felosumay::static, the static one with the
-# heap's functions over malloc. For firmware felosumay::static is the library of the processor that CMAKE_SYSTEM_PROCESSOR names, without a
-# heap; where it isn't installed for that one, it is the portable C, compiled with the firmware. c/install writes the first three lines.
+# For find_package(felosumay). On Linux: the targets felosumay::felosumay, the shared library, and felosumay::static, the static one with
+# the heap's functions over malloc. For firmware felosumay::static is the library of the processor that CMAKE_SYSTEM_PROCESSOR names, without
+# a heap; where it isn't installed for that one, it is the portable C, compiled with the firmware. c/install writes the first three lines.
 set(felosumay_prefix "/usr/local")
 set(felosumay_libdir "${felosumay_prefix}/lib")
 set(felosumay_soname "libfelosumay.so.0.1")

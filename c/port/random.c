@@ -1,6 +1,6 @@
-/* A program of random steps, the same on each target: requests good and bad, reports of jobs, changes at the menu, values that are placed and
- * read, notes, saved images and restarts, on a fixture with sub-devices, parameters of its own, names of choices and locks. What comes back
- * goes into a sum, which is printed after each tenth of the steps. STEPS says how many there are. c/port/check compares the targets. */
+/* A program of random steps, the same on each target: requests good and bad, reports of jobs, changes at the menu, values that are placed
+ * and read, notes, saved images and restarts, on a fixture with sub-devices, parameters of its own, names of choices and locks. What comes
+ * back goes into a sum, which is printed after each tenth of the steps. STEPS says how many there are. c/port/check compares the targets. */
 #include "../felosumay.h"
 #include "../felosumay_names.h"
 #include <stdio.h>

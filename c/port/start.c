@@ -1,5 +1,5 @@
-/* How a program of a Cortex-M begins on a board of qemu: the table of vectors, and the start of newlib, whose input and output go to qemu by
- * semihosting. After a fault the program ends with status 1. */
+/* How a program of a Cortex-M begins on a board of qemu: the table of vectors, and the start of newlib, whose input and output go to qemu
+ * by semihosting. After a fault the program ends with status 1. */
 #include <stdint.h>
 
 extern uint32_t __stack[];

@@ -7,7 +7,8 @@ target_names() {
     sed -nE 's/^([a-z0-9-]+) \|.*/\1/p' "$port/targets" | grep -vx aarch64
 }
 
-# Sets what a line of the file says: triple, words for clang, the firmware's compiler with its words, and the machine of qemu with its memory.
+# Sets what a line of the file says: triple, words for clang, the firmware's compiler with its words, and the machine of qemu with its
+# memory.
 use_target() {
     local line
     line=$(grep -E "^$1 \|" "$port/targets") || { echo "c/port: there is no target $1: $(target_names | tr '\n' ' ')" >&2; return 1; }
@@ -52,7 +53,7 @@ run_program() {
 }
 
 run_on() {
-    timeout 600 "$1" -M "$machine" "${@:3}" -nographic -monitor none -serial none -semihosting-config enable=on,target=native -kernel "$2" 2>&1 |
-        tr -d '\r'
+    timeout 600 "$1" -M "$machine" "${@:3}" -nographic -monitor none -serial none -semihosting-config enable=on,target=native \
+        -kernel "$2" 2>&1 | tr -d '\r'
     return "${PIPESTATUS[0]}"
 }
