@@ -46,7 +46,7 @@ def spaced(name):
 def number(text, kind):
     """A number of LLVM, as C writes it."""
     bits = width(kind)
-    value = {"true": 1, "false": 0}.get(text)
+    value = {"true": 1, "false": 0, "poison": 0, "undef": 0}.get(text)
     value = int(text) & ((1 << bits) - 1) if value is None else value
     return f"{value}u" if bits <= 32 else f"{value}ull"
 
