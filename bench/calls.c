@@ -11,7 +11,7 @@ enum { MAKER = 0x7FF0, FIXTURE = 1, CONSOLE = 2, QUEUE_SIZE = 8, IDENTIFY_DEVICE
 static felosumay_responder device;
 static felosumay_collector console;
 static uint8_t request[FELOSUMAY_FRAME_BYTES], reply[FELOSUMAY_FRAME_BYTES];
-static size_t request_count;
+static uint64_t request_count;
 static felosumay_stepped stepped;
 
 static void ask(void) {
@@ -20,21 +20,21 @@ static void ask(void) {
     felosumay_collector_ask(&console, &command, &nothing, 0, request, &request_count);
 }
 
-static size_t step(void) {
+static uint64_t step(void) {
     felosumay_responder_step(&device, request, request_count, reply, &stepped);
     return stepped.count;
 }
 
-static size_t hear(void) {
+static uint64_t hear(void) {
     uint8_t heard = 0;
     felosumay_collector_hear(&console, reply, stepped.count, &heard);
     return heard;
 }
 
-static size_t make(int row) {
+static uint64_t make(int row) {
     const uint8_t nothing = 0;
     felosumay_message message;
-    size_t count = 0;
+    uint64_t count = 0;
     uint16_t reason = 0;
     switch (row) {
     case 0:

@@ -31,7 +31,7 @@ static uint32_t chance(uint32_t most) {
 }
 
 /* A frame goes over the line. It says how many bytes arrive. */
-static size_t carry(const line *line, uint8_t *bytes, size_t count, int *is_altered) {
+static uint64_t carry(const line *line, uint8_t *bytes, uint64_t count, int *is_altered) {
     unsigned fate = chance(100);
     *is_altered = 0;
     if (fate < line->rates.lost)
@@ -44,10 +44,10 @@ static size_t carry(const line *line, uint8_t *bytes, size_t count, int *is_alte
 }
 
 /* The bytes of whoever answers a request that arrives: as the OR of their bytes if more than one does. */
-static size_t answers(line *line, const uint8_t *request, size_t count, uint8_t heard[FELOSUMAY_FRAME_BYTES]) {
+static uint64_t answers(line *line, const uint8_t *request, uint64_t count, uint8_t heard[FELOSUMAY_FRAME_BYTES]) {
     uint8_t reply[FELOSUMAY_FRAME_BYTES];
     felosumay_stepped stepped;
-    size_t length = 0;
+    uint64_t length = 0;
     memset(heard, 0, FELOSUMAY_FRAME_BYTES);
     for (int i = 0; i < FIXTURES; i++) {
         felosumay_responder_step(&line->fixtures[i], request, count, reply, &stepped);
@@ -61,10 +61,10 @@ static size_t answers(line *line, const uint8_t *request, size_t count, uint8_t 
 }
 
 /* Sends a request, and again while nothing is heard. */
-static size_t transact(line *line, const uint8_t *request, size_t count, uint8_t heard[FELOSUMAY_FRAME_BYTES]) {
+static uint64_t transact(line *line, const uint8_t *request, uint64_t count, uint8_t heard[FELOSUMAY_FRAME_BYTES]) {
     uint8_t sent[FELOSUMAY_FRAME_BYTES];
     int is_mute = request[21] == 0 && request[22] == 2, is_altered = 0;
-    size_t length = 0;
+    uint64_t length = 0;
     for (int i = 0; i <= REPEATS && length == 0; i++) {
         memcpy(sent, request, count);
         length = answers(line, sent, carry(line, sent, count, &is_altered), heard);
@@ -78,10 +78,10 @@ static size_t transact(line *line, const uint8_t *request, size_t count, uint8_t
 /* Runs a search to its end. */
 static felosumay_result discover(felosumay_search *search, line *line) {
     uint8_t request[FELOSUMAY_FRAME_BYTES], heard[FELOSUMAY_FRAME_BYTES];
-    size_t count = 0;
+    uint64_t count = 0;
     felosumay_result status = felosumay_search_next(search, request, &count);
     while (status == FELOSUMAY_DONE) {
-        size_t length = transact(line, request, count, heard);
+        uint64_t length = transact(line, request, count, heard);
         status = felosumay_search_hear(search, heard, length);
         if (status == FELOSUMAY_DONE)
             status = felosumay_search_next(search, request, &count);

@@ -31,8 +31,8 @@ static const answer ANSWERS[] = {
 };
 
 /* Writes a response to a request: it has the request's number, and goes back to its source. */
-static size_t respond(const uint8_t *request, const answer *said, uint8_t *reply) {
-    size_t length = 24 + (size_t)said->count;
+static uint64_t respond(const uint8_t *request, const answer *said, uint8_t *reply) {
+    uint64_t length = 24 + (uint64_t)said->count;
     unsigned sum = 0;
     memcpy(reply, request, 24);
     memcpy(reply + 3, request + 9, 6);
@@ -64,7 +64,7 @@ static void show_heard(const felosumay_heard *heard) {
 /* A message that comes in parts: its last part so far, the data of all, and whether a part may be missing. */
 typedef struct {
     felosumay_collected last;
-    size_t count;
+    uint64_t count;
     int unsure;
     uint8_t data[MOST_JOINED];
 } joined;
@@ -112,7 +112,7 @@ static felosumay_result collect(felosumay_device_collector *console) {
     static joined message;
     uint8_t request[FELOSUMAY_FRAME_BYTES], reply[FELOSUMAY_FRAME_BYTES];
     felosumay_heard heard = {0, 0, FELOSUMAY_IGNORED};
-    size_t count = 0;
+    uint64_t count = 0;
     for (size_t i = 0; heard.kind != FELOSUMAY_UNSUPPORTED && i < sizeof ANSWERS / sizeof *ANSWERS; i++) {
         felosumay_result result = felosumay_device_collector_poll(console, request, &count);
         if (result != FELOSUMAY_DONE)
@@ -140,7 +140,7 @@ static felosumay_result command(felosumay_device_collector *console) {
     uint8_t request[FELOSUMAY_FRAME_BYTES], reply[FELOSUMAY_FRAME_BYTES];
     felosumay_collected collected;
     felosumay_heard heard;
-    size_t count = 0;
+    uint64_t count = 0;
     printf("unknown %u, reserved %u, too long %u\n", felosumay_device_collector_ask(console, &none, load, 0, request, &count),
            felosumay_device_collector_ask(console, &queue, load, 1, request, &count),
            felosumay_device_collector_ask(console, &label, load, 232, request, &count));

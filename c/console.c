@@ -7,7 +7,7 @@
 enum { MAKER = 0x7FF0, FIXTURE = 1, CONSOLE = 2, QUEUE_SIZE = 8 };
 
 /* One request to the device, and its reply, which may be lost. It says what the collector took the reply for. */
-static uint8_t exchange(felosumay_collector *console, felosumay_responder *device, const uint8_t *request, size_t count,
+static uint8_t exchange(felosumay_collector *console, felosumay_responder *device, const uint8_t *request, uint64_t count,
                         int lost, felosumay_job *job) {
     uint8_t reply[FELOSUMAY_FRAME_BYTES], heard = FELOSUMAY_IGNORED;
     felosumay_stepped stepped = {0, 0, 0, 0, {0, 0, 0, 0, 0, 0, 0}, 0, 0};
@@ -29,7 +29,7 @@ static felosumay_result strike(felosumay_collector *console, felosumay_responder
     const uint8_t on[232] = {3};
     uint8_t request[FELOSUMAY_FRAME_BYTES], kept = 0;
     felosumay_job job = {0, 0, 0, 0, 0, 0, 0};
-    size_t count = 0;
+    uint64_t count = 0;
     printf("too long %u, reserved %u, unknown %u\n", felosumay_collector_ask(console, &lamp, on, 232, request, &count),
            felosumay_collector_ask(console, &queue, on, 1, request, &count),
            felosumay_collector_ask(console, &none, on, 1, request, &count));
@@ -46,7 +46,7 @@ static felosumay_result collect(felosumay_collector *console, felosumay_responde
     uint8_t request[FELOSUMAY_FRAME_BYTES];
     felosumay_job job = {0, 0, 0, 0, 0, 0, 0};
     felosumay_message message;
-    size_t count = 0;
+    uint64_t count = 0;
     for (int round = 0; round < 4; round++) {
         felosumay_result status = felosumay_collector_poll(console, request, &count);
         if (status != FELOSUMAY_DONE)
@@ -74,7 +74,7 @@ static felosumay_result repeat(felosumay_collector *console, felosumay_responder
     uint8_t request[FELOSUMAY_FRAME_BYTES];
     felosumay_job job = {0, 0, 0, 0, 0, 0, 0};
     felosumay_message message, last = {0, 0, 0, 0, 0, {0}};
-    size_t count = 0;
+    uint64_t count = 0;
     printf("start 7: %u\n", felosumay_responder_change_start(device, 7));
     for (int round = 0; round < 3; round++) {
         felosumay_result status = felosumay_collector_poll(console, request, &count);
@@ -97,7 +97,7 @@ static felosumay_result run_on(felosumay_collector *console, felosumay_responder
     uint8_t request[FELOSUMAY_FRAME_BYTES];
     felosumay_job job = {0, 0, 0, 0, 0, 0, 0};
     felosumay_message message;
-    size_t count = 0, taken = 0;
+    uint64_t count = 0, taken = 0;
     for (int round = 0; round < 10000; round++) {
         felosumay_result status = felosumay_collector_poll(console, request, &count);
         if (status != FELOSUMAY_DONE)
@@ -105,7 +105,7 @@ static felosumay_result run_on(felosumay_collector *console, felosumay_responder
         exchange(console, device, request, count, 0, &job);
         taken += felosumay_collector_next(console, &message) == FELOSUMAY_DONE;
     }
-    printf("taken %zu\n", taken);
+    printf("taken %u\n", (unsigned)taken);
     return FELOSUMAY_DONE;
 }
 
@@ -113,7 +113,7 @@ int main(void) {
     felosumay_responder device = {0};
     felosumay_collector console = {0};
     felosumay_result status = felosumay_responder_demo(&device, MAKER, FIXTURE, 2, QUEUE_SIZE);
-    size_t waiting = 0;
+    uint64_t waiting = 0;
     if (status == FELOSUMAY_DONE)
         status = felosumay_collector_new(&console, MAKER, CONSOLE, MAKER, FIXTURE, 2);
     if (status == FELOSUMAY_DONE) {

@@ -4,7 +4,7 @@
 #include "line.h"
 
 /* One request: what comes back goes to the collector until it takes it for the answer. If the line is silent, the transaction is over. */
-static uint8_t exchange(felosumay_collector *console, const uint8_t *request, size_t count, felosumay_reply *reply) {
+static uint8_t exchange(felosumay_collector *console, const uint8_t *request, uint64_t count, felosumay_reply *reply) {
     uint8_t answer[FELOSUMAY_FRAME_BYTES], heard = FELOSUMAY_IGNORED;
     line_send(request, count);
     while (heard == FELOSUMAY_IGNORED && (count = line_receive(answer)) != 0)
@@ -20,7 +20,7 @@ int main(void) {
     felosumay_message message;
     felosumay_reply reply;
     uint8_t request[FELOSUMAY_FRAME_BYTES];
-    size_t count = 0;
+    uint64_t count = 0;
     felosumay_result result = felosumay_collector_new(&console, 0x7FF0, 2, 0x7FF0, 1, FELOSUMAY_STATUS_ADVISORY);
     if (result == FELOSUMAY_DONE)
         result = felosumay_collector_ask(&console, &lamp, &on, 1, request, &count);
@@ -30,7 +30,7 @@ int main(void) {
         if (reply.type == FELOSUMAY_ACK_TIMER) /* a real console waits for that long before it polls */
             fprintf(stderr, "%s: in %u tenths of a second\n", felosumay_parameter_name(reply.pid), reply.tenths);
         while (felosumay_collector_next(&console, &message) == FELOSUMAY_DONE)
-            fprintf(stderr, "message: %s, %zu bytes\n", felosumay_parameter_name(message.pid), message.count);
+            fprintf(stderr, "message: %s, %u bytes\n", felosumay_parameter_name(message.pid), (unsigned)message.count);
         if (reply.waiting == 0 && reply.type != FELOSUMAY_ACK_TIMER)
             break;
         result = felosumay_collector_poll(&console, request, &count);

@@ -16,7 +16,7 @@ static void names(void) {
 }
 
 /* A response with this class, response type and data; the checksum is right. */
-static size_t respond(uint8_t *bytes, uint8_t command_class, uint8_t type, const char *data, size_t length) {
+static uint64_t respond(uint8_t *bytes, uint8_t command_class, uint8_t type, const char *data, uint64_t length) {
     const uint8_t head[24] = {0xCC, 0x01, 0, 0x7F, 0xF0, 0, 0, 0, 2, 0x7F, 0xF0, 0, 0, 0, 1, 9, 0, 3, 0, 5, 0, 0x04, 0x03, 0};
     unsigned sum = 0;
     memcpy(bytes, head, sizeof head);
@@ -32,16 +32,16 @@ static size_t respond(uint8_t *bytes, uint8_t command_class, uint8_t type, const
     return 26 + length;
 }
 
-static void show(uint8_t command_class, uint8_t type, const char *data, size_t length) {
+static void show(uint8_t command_class, uint8_t type, const char *data, uint64_t length) {
     uint8_t bytes[FELOSUMAY_FRAME_BYTES];
     felosumay_reply reply;
-    size_t count = respond(bytes, command_class, type, data, length);
+    uint64_t count = respond(bytes, command_class, type, data, length);
     felosumay_result result = felosumay_reply_read(bytes, count, &reply);
-    printf("class %02X, type %u, %zu bytes: %s", command_class, type, length, felosumay_status_name(result));
+    printf("class %02X, type %u, %u bytes: %s", command_class, type, (unsigned)length, felosumay_status_name(result));
     if (result == FELOSUMAY_DONE)
-        printf(": type %u, reason %u, %u tenths, from %04X:%08X, sub-device %u, %s, %u wait, %zu bytes", reply.type, reply.reason,
+        printf(": type %u, reason %u, %u tenths, from %04X:%08X, sub-device %u, %s, %u wait, %u bytes", reply.type, reply.reason,
                reply.tenths, reply.maker, (unsigned)reply.device, reply.sub, felosumay_parameter_name(reply.pid), reply.waiting,
-               reply.count);
+               (unsigned)reply.count);
     printf("\n");
 }
 
@@ -68,7 +68,7 @@ static felosumay_result nothing(void) {
     felosumay_stepped stepped;
     felosumay_heard taken;
     uint8_t frame[FELOSUMAY_FRAME_BYTES], value[FELOSUMAY_VALUE_BYTES], heard = 9;
-    size_t count = 0;
+    uint64_t count = 0;
     uint16_t reason = 0;
     felosumay_responder_free(NULL);
     felosumay_collector_free(NULL);
@@ -203,7 +203,7 @@ static felosumay_result jobs(const char *what) {
     felosumay_collector console = {0};
     felosumay_stepped stepped;
     uint8_t frame[FELOSUMAY_FRAME_BYTES], reply[FELOSUMAY_FRAME_BYTES];
-    size_t count = 0;
+    uint64_t count = 0;
     felosumay_result result = felosumay_responder_new(&fixture, 0x7FF0, 1, &profile, 8);
     if (result == FELOSUMAY_DONE)
         result = felosumay_collector_new(&console, 0x7FF0, 2, 0x7FF0, 1, FELOSUMAY_STATUS_ADVISORY);
@@ -265,7 +265,7 @@ static void give_up(pair *made) {
 }
 
 /* One request of the console's: what the fixture makes of it, and what it replies. */
-static felosumay_stepped send(pair *made, const uint8_t *request, size_t count, felosumay_reply *reply) {
+static felosumay_stepped send(pair *made, const uint8_t *request, uint64_t count, felosumay_reply *reply) {
     uint8_t bytes[FELOSUMAY_FRAME_BYTES], heard;
     felosumay_stepped stepped;
     felosumay_responder_step(&made->fixture, request, count, bytes, &stepped);
@@ -277,7 +277,7 @@ static felosumay_stepped send(pair *made, const uint8_t *request, size_t count, 
 static felosumay_stepped command(pair *made, uint16_t pid, uint8_t command_class, uint8_t byte, felosumay_reply *reply) {
     const felosumay_command asked = {1, 0x7FF0, 0, pid, command_class};
     uint8_t request[FELOSUMAY_FRAME_BYTES];
-    size_t count = 0;
+    uint64_t count = 0;
     felosumay_collector_ask(&made->console, &asked, &byte, 1, request, &count);
     return send(made, request, count, reply);
 }
@@ -292,7 +292,7 @@ static felosumay_result altered_jobs(void) {
         const felosumay_job job = command(&made, FELOSUMAY_PID_LAMP_STATE, FELOSUMAY_SET, FELOSUMAY_LAMP_ON, &reply).job;
         felosumay_job altered[7] = {job, job, job, job, job, job, job};
         uint8_t kept;
-        size_t outstanding = 0;
+        uint64_t outstanding = 0;
         altered[0].number++;
         altered[1].estimate++;
         altered[2].sub = 1;
@@ -304,7 +304,7 @@ static felosumay_result altered_jobs(void) {
         for (int i = 0; i < 7; i++)
             printf(" %s,", felosumay_status_name(felosumay_responder_arrive(&made.fixture, &altered[i], &done, &kept)));
         felosumay_responder_outstanding(&made.fixture, &outstanding);
-        printf(" outstanding %zu, as it is %s", outstanding,
+        printf(" outstanding %u, as it is %s", (unsigned)outstanding,
                felosumay_status_name(felosumay_responder_arrive(&made.fixture, &job, &done, &kept)));
         printf(", again %s\n", felosumay_status_name(felosumay_responder_arrive(&made.fixture, &job, &done, &kept)));
     }
@@ -313,12 +313,12 @@ static felosumay_result altered_jobs(void) {
 }
 
 /* What is placed of these bytes, at the root and at a sub-device, and is read then. */
-static void place_each(pair *made, uint16_t pid, const uint8_t *bytes, size_t count) {
+static void place_each(pair *made, uint16_t pid, const uint8_t *bytes, uint64_t count) {
     printf("place %s:", felosumay_parameter_name(pid));
     for (uint16_t sub = 0; sub < 2; sub++)
         for (size_t i = 0; i < count; i++) {
             uint8_t value[FELOSUMAY_VALUE_BYTES];
-            size_t read = 0;
+            uint64_t read = 0;
             uint16_t reason = 0;
             felosumay_result status = felosumay_responder_place(&made->fixture, sub, pid, bytes + i, 1);
             felosumay_responder_get(&made->fixture, sub, pid, NULL, 0, value, &read, &reason);
@@ -352,7 +352,7 @@ static felosumay_result sensors(void) {
     felosumay_result result = make(&made);
     if (result == FELOSUMAY_DONE) {
         uint8_t request[FELOSUMAY_FRAME_BYTES], kept;
-        size_t count = 0;
+        uint64_t count = 0;
         felosumay_responder_place(&made.fixture, 0, FELOSUMAY_PID_SENSOR_VALUE, start, sizeof start);
         const felosumay_stepped stepped = command(&made, FELOSUMAY_PID_SENSOR_VALUE, FELOSUMAY_GET, 0, &reply);
         felosumay_responder_arrive(&made.fixture, &stepped.job, &reading, &kept);

@@ -11,15 +11,27 @@
  * by `hear`, and `over` is its timeout.
  *
  * felosumay_names.h has the numbers of the standard by name. felosumay.hpp has the same library for C++.
- * The library runs on x86-64 processors of the level x86-64-v2, which have SSE4.2. */
+ * docs/PORTS.md lists the processors that the library runs on. This header is the same for all of them. */
 #ifndef FELOSUMAY_H
 #define FELOSUMAY_H
 #include <stddef.h>
 #include <stdint.h>
 
-/* The structs, and the sizes below, are those of the library, which is built for x86-64. */
-#if UINTPTR_MAX != 0xFFFFFFFFFFFFFFFF
-#error "felosumay.h is for targets whose pointers have 64 bits: on this one its structs and sizes would be wrong"
+/* Each struct has the same places and the same size on each target, whether its pointers have 32 or 64 bits: counts are 64-bit numbers,
+ * and a pointer takes 8 bytes. The assertions at the end stop a compiler that lays them out otherwise. */
+#if defined __cplusplus
+#define FELOSUMAY_WIDE alignas(8)
+#define FELOSUMAY_ASSERT(fact) static_assert(fact, #fact)
+#elif defined __GNUC__
+#define FELOSUMAY_WIDE __attribute__((aligned(8)))
+#else
+#define FELOSUMAY_WIDE _Alignas(8)
+#endif
+#if defined FELOSUMAY_ASSERT
+#elif defined __STDC_VERSION__ && __STDC_VERSION__ >= 201112L
+#define FELOSUMAY_ASSERT(fact) _Static_assert(fact, #fact)
+#else
+#define FELOSUMAY_ASSERT(fact) extern char felosumay_asserted[(fact) ? 1 : -1]
 #endif
 
 /* The version of this header. felosumay_version() is that of the library. */
@@ -32,10 +44,10 @@
 extern "C" {
 #endif
 
-typedef struct { void *at; } felosumay_responder;
-typedef struct { void *at; } felosumay_collector;
-typedef struct { void *at; } felosumay_device_collector;
-typedef struct { void *at; } felosumay_search;
+typedef struct { uint64_t at; } felosumay_responder;
+typedef struct { uint64_t at; } felosumay_collector;
+typedef struct { uint64_t at; } felosumay_device_collector;
+typedef struct { uint64_t at; } felosumay_search;
 
 /* What became of a call. */
 typedef uint8_t felosumay_result;
@@ -249,14 +261,14 @@ typedef struct {
     felosumay_status_text status_texts[8];
     uint16_t more_slots; /* how many DMX512 slots the root has beside those of `slots`, which nothing describes: 0 to 512 */
     /* What lies outside: `new` reads it once, and it may be NULL if there is none. */
-    const felosumay_parameter *parameters; /* the maker's own, by ascending PID */
-    size_t parameter_count;                /* 0 to 32 */
-    const uint16_t *without;               /* the PIDs of those of docs/PARAMETERS.md that the fixture lacks, in any order */
-    size_t without_count;                  /* 0 to 36 */
+    FELOSUMAY_WIDE const felosumay_parameter *parameters; /* the maker's own, by ascending PID */
+    uint64_t parameter_count;                /* 0 to 32 */
+    FELOSUMAY_WIDE const uint16_t *without; /* the PIDs of those of docs/PARAMETERS.md that the fixture lacks, in any order */
+    uint64_t without_count;                  /* 0 to 36 */
     felosumay_estimates estimates;         /* how long slow commands take */
     felosumay_workers workers;             /* and which worker carries them out */
-    const felosumay_choice *choices;       /* the names of choices, by ascending PID and number; NULL if there are none */
-    size_t choice_count;                   /* 0 to 64 */
+    FELOSUMAY_WIDE const felosumay_choice *choices; /* the names of choices, by ascending PID and number; NULL if there are none */
+    uint64_t choice_count;                   /* 0 to 64 */
     uint8_t lock_count;                    /* 0 to 64 */
     felosumay_lock locks[64];              /* which parameters the lock states keep from being set, in any order */
 } felosumay_profile;
@@ -306,7 +318,7 @@ typedef struct {
 } felosumay_job;
 
 typedef struct {
-    size_t count;    /* how many bytes the reply has: at most 257 */
+    uint64_t count;    /* how many bytes the reply has: at most 257 */
     uint8_t replied; /* 1 if there is a reply, else 0 */
     uint8_t started; /* 1 if a job started, else 0 */
     uint8_t changed; /* FELOSUMAY_NOTHING_CHANGED and so on */
@@ -363,23 +375,23 @@ felosumay_result felosumay_responder_demo(felosumay_responder *responder, uint16
  * `fits` says whether a responder of this size has room in so many bytes of memory from this address on, as
  * felosumay_memory.h makes one: UNALIGNED, SHORT_MEMORY, in this order. Any sizes are reckoned with, and it is `new` that
  * calls one a BAD_SIZE. */
-size_t felosumay_responder_size(uint16_t queue_size, uint16_t entries, uint16_t sub_devices);
-felosumay_result felosumay_responder_fits(uintptr_t address, size_t bytes, uint16_t queue_size, uint16_t entries,
+uint64_t felosumay_responder_size(uint16_t queue_size, uint16_t entries, uint16_t sub_devices);
+felosumay_result felosumay_responder_fits(uint64_t address, uint64_t bytes, uint16_t queue_size, uint16_t entries,
                                           uint16_t sub_devices);
-#define FELOSUMAY_ROUNDED(bytes) (((size_t)(bytes) + 15) / 16 * 16)
+#define FELOSUMAY_ROUNDED(bytes) (((uint64_t)(bytes) + 15) / 16 * 16)
 #define FELOSUMAY_PARTICULARS_BYTES FELOSUMAY_ROUNDED(144)
-#define FELOSUMAY_OWN_PARAMETERS_BYTES(count) ((count) == 0 ? (size_t)0 : FELOSUMAY_ROUNDED(24) + (256 + 48) * (size_t)(count))
-#define FELOSUMAY_VALUES_BYTES(count) (48 * (size_t)(count))
-#define FELOSUMAY_CHOICES_BYTES(count) ((count) == 0 ? (size_t)0 : FELOSUMAY_ROUNDED(3080))
-#define FELOSUMAY_LOCKS_BYTES(count) ((count) == 0 ? (size_t)0 : FELOSUMAY_ROUNDED(264))
+#define FELOSUMAY_OWN_PARAMETERS_BYTES(count) ((count) == 0 ? (uint64_t)0 : FELOSUMAY_ROUNDED(24) + (256 + 48) * (uint64_t)(count))
+#define FELOSUMAY_VALUES_BYTES(count) (48 * (uint64_t)(count))
+#define FELOSUMAY_CHOICES_BYTES(count) ((count) == 0 ? (uint64_t)0 : FELOSUMAY_ROUNDED(3080))
+#define FELOSUMAY_LOCKS_BYTES(count) ((count) == 0 ? (uint64_t)0 : FELOSUMAY_ROUNDED(264))
 #define FELOSUMAY_RESPONDER_BYTES(queue_size, entries, sub_devices)                                                             \
-    (FELOSUMAY_ROUNDED(5856) + FELOSUMAY_ROUNDED(56 * (size_t)(sub_devices)) + 2 * FELOSUMAY_ROUNDED(12 * (size_t)(queue_size)) + \
-     FELOSUMAY_ROUNDED(248 * (size_t)(queue_size)) + FELOSUMAY_ROUNDED(9 * (size_t)(entries)))
+    (FELOSUMAY_ROUNDED(5856) + FELOSUMAY_ROUNDED(56 * (uint64_t)(sub_devices)) + 2 * FELOSUMAY_ROUNDED(12 * (uint64_t)(queue_size)) + \
+     FELOSUMAY_ROUNDED(248 * (uint64_t)(queue_size)) + FELOSUMAY_ROUNDED(9 * (uint64_t)(entries)))
 
 /* Hears bytes. If there is a reply, it stands at the front of `reply`; the answer to discovery is a reply like any other,
  * and has no break before it. What stands behind the reply has no meaning. ABSENT: `replied`, `started` and
  * `changed` are 0 then. */
-static inline felosumay_result felosumay_responder_step(felosumay_responder *responder, const uint8_t *bytes, size_t length,
+static inline felosumay_result felosumay_responder_step(felosumay_responder *responder, const uint8_t *bytes, uint64_t length,
                                                         uint8_t reply[FELOSUMAY_FRAME_BYTES], felosumay_stepped *stepped);
 
 /* Takes the report of a job. `kept` is 1 if it left a status entry that is kept, else 0. UNKNOWN, ABSENT, ASTRAY, in this
@@ -395,7 +407,7 @@ felosumay_result felosumay_responder_arrive(felosumay_responder *responder, cons
 felosumay_result felosumay_responder_change_start(felosumay_responder *responder, uint16_t start);
 felosumay_result felosumay_responder_change_personality(felosumay_responder *responder, uint8_t number);
 static inline felosumay_result felosumay_responder_change_label(felosumay_responder *responder, const uint8_t *label,
-                                                                size_t length);
+                                                                uint64_t length);
 
 /* Whether there is room for the message of a change: `there` is 1 then, else 0. ABSENT. */
 felosumay_result felosumay_responder_room(const felosumay_responder *responder, uint8_t *there);
@@ -412,7 +424,7 @@ felosumay_result felosumay_responder_room(const felosumay_responder *responder, 
  * ABSENT; NO_DEVICE if there is no such sub-device; NOT_STORED if the device stores no value of `pid`; BAD_LENGTH;
  * OUT_OF_RANGE, in this order; nothing changes then. */
 static inline felosumay_result felosumay_responder_place(felosumay_responder *responder, uint16_t sub, uint16_t pid,
-                                                         const uint8_t *data, size_t length);
+                                                         const uint8_t *data, uint64_t length);
 
 /* Values outlive power-off: `save` writes an image of all of them at the front of `image`, and `restore` takes it when the
  * fixture is on again, before anything is heard. What lamp, identification, power state, self test and preset are at isn't in it,
@@ -425,12 +437,12 @@ static inline felosumay_result felosumay_responder_place(felosumay_responder *re
  * `saved_size`: ABSENT. `save`: ABSENT, SHORT_IMAGE; nothing is written then. `restore`: ABSENT, IMAGE_LENGTH, ALTERED_IMAGE,
  * FOREIGN_IMAGE, in this order; nothing changes then. */
 #define FELOSUMAY_SAVED_BYTES(sub_devices, sensors, parameters, orders, scenes, without)                                   \
-    (82 + 46 * (size_t)(sub_devices) + 2 * (size_t)(sensors) + 37 * (size_t)(parameters) + 33 * (size_t)(orders) + \
-     33 * (size_t)(scenes) + 2 * (size_t)(without))
+    (82 + 46 * (uint64_t)(sub_devices) + 2 * (uint64_t)(sensors) + 37 * (uint64_t)(parameters) + 33 * (uint64_t)(orders) + \
+     33 * (uint64_t)(scenes) + 2 * (uint64_t)(without))
 #define FELOSUMAY_MOST_SAVED_BYTES FELOSUMAY_SAVED_BYTES(512, 8, 32, 32, 255, 36)
-felosumay_result felosumay_responder_saved_size(const felosumay_responder *responder, size_t *count);
-felosumay_result felosumay_responder_save(const felosumay_responder *responder, uint8_t *image, size_t size, size_t *count);
-static inline felosumay_result felosumay_responder_restore(felosumay_responder *responder, const uint8_t *image, size_t length);
+felosumay_result felosumay_responder_saved_size(const felosumay_responder *responder, uint64_t *count);
+felosumay_result felosumay_responder_save(const felosumay_responder *responder, uint8_t *image, uint64_t size, uint64_t *count);
+static inline felosumay_result felosumay_responder_restore(felosumay_responder *responder, const uint8_t *image, uint64_t length);
 
 /* The firmware warns: it has a status entry of its own, such as a fan that stands still, of the root (`sub` 0) or of a
  * sub-device, 1 to 512. A controller is shown it once, by STATUS_MESSAGES (E1.20 section 10.3.2). `severity` is the status type
@@ -444,18 +456,18 @@ felosumay_result felosumay_responder_note(felosumay_responder *responder, uint16
 /* Reads a parameter as a GET would. ABSENT; REFUSED, with the code of the NACK in `reason`; NO_VALUE if the command starts
  * a job or fetches a message. Nothing changes. */
 static inline felosumay_result felosumay_responder_get(const felosumay_responder *responder, uint16_t sub, uint16_t pid,
-                                                       const uint8_t *argument, size_t length, uint8_t value[FELOSUMAY_VALUE_BYTES],
-                                                       size_t *count, uint16_t *reason);
+                                                       const uint8_t *argument, uint64_t length, uint8_t value[FELOSUMAY_VALUE_BYTES],
+                                                       uint64_t *count, uint16_t *reason);
 
 /* Reads what is kept of a parameter of `parameters`, whichever commands it has: the data of an order, which no GET reads. The firmware
  * does so when `step` says that it changed, sends the reply, and carries the order out. ABSENT; NOT_STORED if the profile adds no
  * parameter of this PID. Nothing changes. */
 felosumay_result felosumay_responder_own_value(const felosumay_responder *responder, uint16_t pid,
-                                               uint8_t value[FELOSUMAY_VALUE_BYTES], size_t *count);
+                                               uint8_t value[FELOSUMAY_VALUE_BYTES], uint64_t *count);
 
 /* How many messages wait, and how many jobs are outstanding. ABSENT. */
-felosumay_result felosumay_responder_waiting(const felosumay_responder *responder, size_t *count);
-felosumay_result felosumay_responder_outstanding(const felosumay_responder *responder, size_t *count);
+felosumay_result felosumay_responder_waiting(const felosumay_responder *responder, uint64_t *count);
+felosumay_result felosumay_responder_outstanding(const felosumay_responder *responder, uint64_t *count);
 
 /* Gives up what the handle holds, if anything. The handle is {0} again. NULL is no handle, and nothing happens then. */
 void felosumay_responder_free(felosumay_responder *responder);
@@ -475,7 +487,7 @@ enum {
 
 /* The first test that bytes fail, or IS_FRAME: for the counts of COMMS_STATUS. A responder and a collector ignore what isn't a frame. The
  * answer to discovery isn't one. */
-static inline uint8_t felosumay_frame_fault(const uint8_t *bytes, size_t length);
+static inline uint8_t felosumay_frame_fault(const uint8_t *bytes, uint64_t length);
 
 /* ---- the collector */
 
@@ -488,7 +500,7 @@ typedef struct {
 } felosumay_command;
 
 typedef struct {
-    size_t count; /* how many bytes of data it has: 0 to 231 */
+    uint64_t count; /* how many bytes of data it has: 0 to 231 */
     uint16_t pid;          /* its parameter, FELOSUMAY_PID_.. or one of the maker's own */
     uint16_t sub;          /* the sub-device, 1 to 512, or 0 for the root */
     uint8_t command_class; /* that of the response: 0x21 of a GET, 0x31 of a SET */
@@ -498,7 +510,7 @@ typedef struct {
 
 /* What a response says (E1.20 section 6.3). */
 typedef struct {
-    size_t count;    /* how many bytes of data it has: 0 to 231 */
+    uint64_t count;    /* how many bytes of data it has: 0 to 231 */
     uint32_t device; /* the device ID and the manufacturer ID of the device that answers */
     uint16_t maker;
     uint16_t sub; /* the sub-device, 1 to 512, or 0 for the root */
@@ -522,7 +534,7 @@ enum {
 /* Reads a response. It takes no handle, and asks not whom the response is for: `felosumay_collector_hear` says whether it
  * answers the open request. NO_REPLY if the bytes aren't a response: a frame of class 0x11, 0x21 or 0x31 with a response type of
  * the table, in which ACK_TIMER and NACK_REASON have two bytes of data. Nothing is written then. */
-static inline felosumay_result felosumay_reply_read(const uint8_t *bytes, size_t length, felosumay_reply *reply);
+static inline felosumay_result felosumay_reply_read(const uint8_t *bytes, uint64_t length, felosumay_reply *reply);
 
 /* What a collector takes bytes for. */
 enum { FELOSUMAY_IGNORED = 0, FELOSUMAY_MESSAGE = 1, FELOSUMAY_REPLY = 2 };
@@ -537,14 +549,14 @@ felosumay_result felosumay_collector_new(felosumay_collector *collector, uint16_
  * transaction. Of `ask` UNKNOWN, ABSENT, RESERVED, BUSY, TOO_LONG, and of `poll` ABSENT, BUSY, OUT_OF_MEMORY, in this order;
  * nothing changes then. */
 static inline felosumay_result felosumay_collector_ask(felosumay_collector *collector, const felosumay_command *command,
-                                                       const uint8_t *load, size_t length, uint8_t request[FELOSUMAY_FRAME_BYTES],
-                                                       size_t *count);
+                                                       const uint8_t *load, uint64_t length, uint8_t request[FELOSUMAY_FRAME_BYTES],
+                                                       uint64_t *count);
 felosumay_result felosumay_collector_poll(felosumay_collector *collector, uint8_t request[FELOSUMAY_FRAME_BYTES],
-                                          size_t *count);
+                                          uint64_t *count);
 
 /* Hears bytes, and says what they are taken for. Discovery's answers aren't frames, and are ignored; so is an answer to a poll
  * that isn't ACK, which a `felosumay_device_collector` takes. ABSENT. */
-static inline felosumay_result felosumay_collector_hear(felosumay_collector *collector, const uint8_t *bytes, size_t length,
+static inline felosumay_result felosumay_collector_hear(felosumay_collector *collector, const uint8_t *bytes, uint64_t length,
                                                         uint8_t *heard);
 
 /* Ends the open transaction, if there is one, without an answer: call it on a timeout. If a poll ended so, the next poll asks
@@ -563,7 +575,7 @@ void felosumay_collector_free(felosumay_collector *collector);
 
 /* A message, or a part of one (E1.20 section 10.3.1). */
 typedef struct {
-    size_t count; /* how many bytes of data it has: 0 to 231 */
+    uint64_t count; /* how many bytes of data it has: 0 to 231 */
     uint16_t pid;    /* its parameter, FELOSUMAY_PID_.. or one of the maker's own */
     uint16_t sub;    /* the sub-device, 1 to 512, or 0 for the root */
     uint16_t reason; /* of a NACK_REASON why an earlier command was rejected, FELOSUMAY_NR_..; else 0 */
@@ -594,15 +606,15 @@ typedef struct {
 felosumay_result felosumay_device_collector_new(felosumay_device_collector *collector, uint16_t maker, uint32_t device,
                                                 uint16_t target_maker, uint32_t target_device, uint8_t wants);
 static inline felosumay_result felosumay_device_collector_ask(felosumay_device_collector *collector,
-                                                              const felosumay_command *command, const uint8_t *load, size_t length,
-                                                              uint8_t request[FELOSUMAY_FRAME_BYTES], size_t *count);
+                                                              const felosumay_command *command, const uint8_t *load, uint64_t length,
+                                                              uint8_t request[FELOSUMAY_FRAME_BYTES], uint64_t *count);
 felosumay_result felosumay_device_collector_poll(felosumay_device_collector *collector, uint8_t request[FELOSUMAY_FRAME_BYTES],
-                                                 size_t *count);
+                                                 uint64_t *count);
 felosumay_result felosumay_device_collector_over(felosumay_device_collector *collector);
 
 /* Hears bytes, and says what they are taken for: any response in the open transaction answers it. ABSENT. */
 static inline felosumay_result felosumay_device_collector_hear(felosumay_device_collector *collector, const uint8_t *bytes,
-                                                               size_t length, felosumay_heard *heard);
+                                                               uint64_t length, felosumay_heard *heard);
 
 /* Takes the first message, or part of one, that was recorded and not taken yet, and lets go of it. The data of a message in parts
  * are those of its parts, one behind the other: each of type ACK_OVERFLOW but the last, and all of one command class, PID and
@@ -635,27 +647,27 @@ felosumay_result felosumay_search_new(felosumay_search *search, uint16_t maker, 
 /* Writes the next request to the front of `request`. Nothing changes: until `hear` each call writes the same.
  * ABSENT; NO_MORE if the search has ended, and each fixture was found; LIMIT if it hasn't and no transaction is left, since
  * the line sounds though nobody answers, or has more fixtures than the limit is for. */
-felosumay_result felosumay_search_next(const felosumay_search *search, uint8_t request[FELOSUMAY_FRAME_BYTES], size_t *count);
+felosumay_result felosumay_search_next(const felosumay_search *search, uint8_t request[FELOSUMAY_FRAME_BYTES], uint64_t *count);
 
 /* Hears what came after the request of `next`: all bytes of it, even if they aren't an answer, as after a collision; of
  * length 0 if nothing came. A mute after which bytes come that aren't a valid answer is sent again, 8 times at most, so that an altered
  * answer hides nobody. ABSENT; OUT_OF_MEMORY: the search stands where it stood then, and the same bytes can be heard again. */
-static inline felosumay_result felosumay_search_hear(felosumay_search *search, const uint8_t *bytes, size_t length);
+static inline felosumay_result felosumay_search_hear(felosumay_search *search, const uint8_t *bytes, uint64_t length);
 
 /* Begins again with what was found, for fixtures that were plugged in since, or that lost power. It un-mutes none, so that those
  * which were found stay silent: 74 transactions for each of the others and 1 more are enough. ABSENT. */
 felosumay_result felosumay_search_resume(felosumay_search *search, uint32_t limit);
 
 /* How many fixtures were found so far. ABSENT. */
-felosumay_result felosumay_search_count(const felosumay_search *search, size_t *count);
+felosumay_result felosumay_search_count(const felosumay_search *search, uint64_t *count);
 
 /* The fixture with this index, from 0, in the order in which they were found. ABSENT; NO_MORE if no more were found. */
-felosumay_result felosumay_search_found(const felosumay_search *search, size_t index, felosumay_found *found);
+felosumay_result felosumay_search_found(const felosumay_search *search, uint64_t index, felosumay_found *found);
 
 /* The device with this index, from 0, among those that sounded after each of 9 mutes, though no answer was valid: its UID, and 0 in the
  * other fields. One that isn't among those that were found is muted, it may be: on a better line a search made anew finds it. ABSENT;
  * NO_MORE if there are no more. */
-felosumay_result felosumay_search_unsure(const felosumay_search *search, size_t index, felosumay_found *unsure);
+felosumay_result felosumay_search_unsure(const felosumay_search *search, uint64_t index, felosumay_found *unsure);
 
 /* Gives up what the handle holds, if anything. The handle is {0} again. NULL is no handle, and nothing happens then. */
 void felosumay_search_free(felosumay_search *search);
@@ -665,11 +677,11 @@ void felosumay_search_free(felosumay_search *search);
  * is 0, it passes the address of something in the place of what came. Other languages call those, and pass a valid address too. */
 
 /* The address of so many things. If there are none, it is that of something else, and never NULL. */
-static inline const void *felosumay_address(const void *things, size_t count) {
+static inline const void *felosumay_address(const void *things, uint64_t count) {
     static const uint64_t something = 0;
     return count == 0 ? &something : things;
 }
-static inline const uint8_t *felosumay_bytes(const uint8_t *bytes, size_t length) {
+static inline const uint8_t *felosumay_bytes(const uint8_t *bytes, uint64_t length) {
     return (const uint8_t *)felosumay_address(bytes, length);
 }
 static inline const felosumay_parameter *felosumay_parameters_of(const felosumay_profile *profile) {
@@ -683,8 +695,8 @@ static inline const felosumay_choice *felosumay_choices_of(const felosumay_profi
 }
 
 uint8_t felosumay_profile_fault_nonnull(const felosumay_profile *profile, const felosumay_parameter *parameters,
-                                        size_t parameter_count, const uint16_t *without, size_t without_count,
-                                        const felosumay_choice *choices, size_t choice_count);
+                                        uint64_t parameter_count, const uint16_t *without, uint64_t without_count,
+                                        const felosumay_choice *choices, uint64_t choice_count);
 static inline uint8_t felosumay_profile_fault(const felosumay_profile *profile) {
     return felosumay_profile_fault_nonnull(profile, felosumay_parameters_of(profile), profile->parameter_count,
                                            felosumay_without_of(profile), profile->without_count, felosumay_choices_of(profile),
@@ -693,8 +705,8 @@ static inline uint8_t felosumay_profile_fault(const felosumay_profile *profile) 
 
 felosumay_result felosumay_responder_new_with_nonnull(felosumay_responder *responder, uint16_t maker, uint32_t device,
                                                       const felosumay_profile *profile, const felosumay_parameter *parameters,
-                                                      size_t parameter_count, const uint16_t *without, size_t without_count,
-                                                      const felosumay_choice *choices, size_t choice_count, uint16_t queue_size,
+                                                      uint64_t parameter_count, const uint16_t *without, uint64_t without_count,
+                                                      const felosumay_choice *choices, uint64_t choice_count, uint16_t queue_size,
                                                       uint16_t entries, uint32_t first_job);
 static inline felosumay_result felosumay_responder_new_with(felosumay_responder *responder, uint16_t maker, uint32_t device,
                                                             const felosumay_profile *profile, uint16_t queue_size, uint16_t entries,
@@ -709,84 +721,84 @@ static inline felosumay_result felosumay_responder_new(felosumay_responder *resp
     return felosumay_responder_new_with(responder, maker, device, profile, queue_size, 1024, 0);
 }
 
-felosumay_result felosumay_responder_step_nonnull(felosumay_responder *responder, const uint8_t *bytes, size_t length,
+felosumay_result felosumay_responder_step_nonnull(felosumay_responder *responder, const uint8_t *bytes, uint64_t length,
                                                   uint8_t reply[FELOSUMAY_FRAME_BYTES], felosumay_stepped *stepped);
-static inline felosumay_result felosumay_responder_step(felosumay_responder *responder, const uint8_t *bytes, size_t length,
+static inline felosumay_result felosumay_responder_step(felosumay_responder *responder, const uint8_t *bytes, uint64_t length,
                                                         uint8_t reply[FELOSUMAY_FRAME_BYTES], felosumay_stepped *stepped) {
     return felosumay_responder_step_nonnull(responder, felosumay_bytes(bytes, length), length, reply, stepped);
 }
 
-felosumay_result felosumay_responder_change_label_nonnull(felosumay_responder *responder, const uint8_t *label, size_t length);
+felosumay_result felosumay_responder_change_label_nonnull(felosumay_responder *responder, const uint8_t *label, uint64_t length);
 static inline felosumay_result felosumay_responder_change_label(felosumay_responder *responder, const uint8_t *label,
-                                                                size_t length) {
+                                                                uint64_t length) {
     return felosumay_responder_change_label_nonnull(responder, felosumay_bytes(label, length), length);
 }
 
 felosumay_result felosumay_responder_place_nonnull(felosumay_responder *responder, uint16_t sub, uint16_t pid, const uint8_t *data,
-                                                   size_t length);
+                                                   uint64_t length);
 static inline felosumay_result felosumay_responder_place(felosumay_responder *responder, uint16_t sub, uint16_t pid,
-                                                         const uint8_t *data, size_t length) {
+                                                         const uint8_t *data, uint64_t length) {
     return felosumay_responder_place_nonnull(responder, sub, pid, felosumay_bytes(data, length), length);
 }
 
-felosumay_result felosumay_responder_restore_nonnull(felosumay_responder *responder, const uint8_t *image, size_t length);
-static inline felosumay_result felosumay_responder_restore(felosumay_responder *responder, const uint8_t *image, size_t length) {
+felosumay_result felosumay_responder_restore_nonnull(felosumay_responder *responder, const uint8_t *image, uint64_t length);
+static inline felosumay_result felosumay_responder_restore(felosumay_responder *responder, const uint8_t *image, uint64_t length) {
     return felosumay_responder_restore_nonnull(responder, felosumay_bytes(image, length), length);
 }
 
 felosumay_result felosumay_responder_get_nonnull(const felosumay_responder *responder, uint16_t sub, uint16_t pid,
-                                                 const uint8_t *argument, size_t length, uint8_t value[FELOSUMAY_VALUE_BYTES],
-                                                 size_t *count, uint16_t *reason);
+                                                 const uint8_t *argument, uint64_t length, uint8_t value[FELOSUMAY_VALUE_BYTES],
+                                                 uint64_t *count, uint16_t *reason);
 static inline felosumay_result felosumay_responder_get(const felosumay_responder *responder, uint16_t sub, uint16_t pid,
-                                                       const uint8_t *argument, size_t length, uint8_t value[FELOSUMAY_VALUE_BYTES],
-                                                       size_t *count, uint16_t *reason) {
+                                                       const uint8_t *argument, uint64_t length, uint8_t value[FELOSUMAY_VALUE_BYTES],
+                                                       uint64_t *count, uint16_t *reason) {
     return felosumay_responder_get_nonnull(responder, sub, pid, felosumay_bytes(argument, length), length, value, count, reason);
 }
 
-uint8_t felosumay_frame_fault_nonnull(const uint8_t *bytes, size_t length);
-static inline uint8_t felosumay_frame_fault(const uint8_t *bytes, size_t length) {
+uint8_t felosumay_frame_fault_nonnull(const uint8_t *bytes, uint64_t length);
+static inline uint8_t felosumay_frame_fault(const uint8_t *bytes, uint64_t length) {
     return felosumay_frame_fault_nonnull(felosumay_bytes(bytes, length), length);
 }
 
-felosumay_result felosumay_reply_read_nonnull(const uint8_t *bytes, size_t length, felosumay_reply *reply);
-static inline felosumay_result felosumay_reply_read(const uint8_t *bytes, size_t length, felosumay_reply *reply) {
+felosumay_result felosumay_reply_read_nonnull(const uint8_t *bytes, uint64_t length, felosumay_reply *reply);
+static inline felosumay_result felosumay_reply_read(const uint8_t *bytes, uint64_t length, felosumay_reply *reply) {
     return felosumay_reply_read_nonnull(felosumay_bytes(bytes, length), length, reply);
 }
 
 felosumay_result felosumay_collector_ask_nonnull(felosumay_collector *collector, const felosumay_command *command,
-                                                 const uint8_t *load, size_t length, uint8_t request[FELOSUMAY_FRAME_BYTES],
-                                                 size_t *count);
+                                                 const uint8_t *load, uint64_t length, uint8_t request[FELOSUMAY_FRAME_BYTES],
+                                                 uint64_t *count);
 static inline felosumay_result felosumay_collector_ask(felosumay_collector *collector, const felosumay_command *command,
-                                                       const uint8_t *load, size_t length, uint8_t request[FELOSUMAY_FRAME_BYTES],
-                                                       size_t *count) {
+                                                       const uint8_t *load, uint64_t length, uint8_t request[FELOSUMAY_FRAME_BYTES],
+                                                       uint64_t *count) {
     return felosumay_collector_ask_nonnull(collector, command, felosumay_bytes(load, length), length, request, count);
 }
 
-felosumay_result felosumay_collector_hear_nonnull(felosumay_collector *collector, const uint8_t *bytes, size_t length,
+felosumay_result felosumay_collector_hear_nonnull(felosumay_collector *collector, const uint8_t *bytes, uint64_t length,
                                                   uint8_t *heard);
-static inline felosumay_result felosumay_collector_hear(felosumay_collector *collector, const uint8_t *bytes, size_t length,
+static inline felosumay_result felosumay_collector_hear(felosumay_collector *collector, const uint8_t *bytes, uint64_t length,
                                                         uint8_t *heard) {
     return felosumay_collector_hear_nonnull(collector, felosumay_bytes(bytes, length), length, heard);
 }
 
 felosumay_result felosumay_device_collector_ask_nonnull(felosumay_device_collector *collector, const felosumay_command *command,
-                                                        const uint8_t *load, size_t length, uint8_t request[FELOSUMAY_FRAME_BYTES],
-                                                        size_t *count);
+                                                        const uint8_t *load, uint64_t length, uint8_t request[FELOSUMAY_FRAME_BYTES],
+                                                        uint64_t *count);
 static inline felosumay_result felosumay_device_collector_ask(felosumay_device_collector *collector,
-                                                              const felosumay_command *command, const uint8_t *load, size_t length,
-                                                              uint8_t request[FELOSUMAY_FRAME_BYTES], size_t *count) {
+                                                              const felosumay_command *command, const uint8_t *load, uint64_t length,
+                                                              uint8_t request[FELOSUMAY_FRAME_BYTES], uint64_t *count) {
     return felosumay_device_collector_ask_nonnull(collector, command, felosumay_bytes(load, length), length, request, count);
 }
 
-felosumay_result felosumay_device_collector_hear_nonnull(felosumay_device_collector *collector, const uint8_t *bytes, size_t length,
+felosumay_result felosumay_device_collector_hear_nonnull(felosumay_device_collector *collector, const uint8_t *bytes, uint64_t length,
                                                          felosumay_heard *heard);
 static inline felosumay_result felosumay_device_collector_hear(felosumay_device_collector *collector, const uint8_t *bytes,
-                                                               size_t length, felosumay_heard *heard) {
+                                                               uint64_t length, felosumay_heard *heard) {
     return felosumay_device_collector_hear_nonnull(collector, felosumay_bytes(bytes, length), length, heard);
 }
 
-felosumay_result felosumay_search_hear_nonnull(felosumay_search *search, const uint8_t *bytes, size_t length);
-static inline felosumay_result felosumay_search_hear(felosumay_search *search, const uint8_t *bytes, size_t length) {
+felosumay_result felosumay_search_hear_nonnull(felosumay_search *search, const uint8_t *bytes, uint64_t length);
+static inline felosumay_result felosumay_search_hear(felosumay_search *search, const uint8_t *bytes, uint64_t length) {
     return felosumay_search_hear_nonnull(search, felosumay_bytes(bytes, length), length);
 }
 
@@ -794,8 +806,8 @@ static inline felosumay_result felosumay_search_hear(felosumay_search *search, c
  * `felosumay_tell_..` are for languages without inline functions: `letters` points to any byte before them. */
 
 typedef struct {
-    const char *letters;
-    size_t count; /* how many bytes there are, with the NUL */
+    FELOSUMAY_WIDE const char *letters;
+    uint64_t count; /* how many bytes there are, with the NUL */
 } felosumay_name;
 
 void felosumay_tell_status(felosumay_result status, felosumay_name *name);
@@ -833,22 +845,71 @@ static inline const char *felosumay_version(void) {
 
 /* ---- the heap: what the library calls for memory. libfelosumay_heap.a has the three functions over malloc, realloc and free
  * (c/heap.c). A program that takes memory from a pool defines them itself, and doesn't link that library. An alignment is 1, 2,
- * 4, 8 or 16, and a size below 2^63. */
+ * 4, 8 or 16, and a size below 2^63, also where no block is as large. */
 
 typedef struct {
     uint8_t there; /* 1 if there is memory, else 0 */
-    void *at;      /* where the block begins; never NULL, even if there is none */
+    FELOSUMAY_WIDE void *at; /* where the block begins; never NULL, even if there is none */
 } felosumay_block;
 
 /* Gets a block of `size` bytes. */
-felosumay_block rattle_alloc(size_t size, size_t alignment);
+felosumay_block rattle_alloc(uint64_t size, uint64_t alignment);
 
 /* Makes a block one of `size` bytes, here or elsewhere, whose first `kept` bytes are as they were. If there is no memory for
  * it, the block stays as it was. */
-felosumay_block rattle_realloc(void *at, size_t kept, size_t size, size_t alignment);
+felosumay_block rattle_realloc(void *at, uint64_t kept, uint64_t size, uint64_t alignment);
 
 /* Gives a block back. */
 void rattle_dealloc(void *at);
+
+/* ---- the layout of what crosses: the library has the same numbers on each target */
+
+FELOSUMAY_ASSERT(sizeof(felosumay_responder) == 8);
+FELOSUMAY_ASSERT(sizeof(felosumay_collector) == 8);
+FELOSUMAY_ASSERT(sizeof(felosumay_device_collector) == 8);
+FELOSUMAY_ASSERT(sizeof(felosumay_search) == 8);
+FELOSUMAY_ASSERT(sizeof(felosumay_text) == 33);
+FELOSUMAY_ASSERT(sizeof(felosumay_personality) == 36);
+FELOSUMAY_ASSERT(sizeof(felosumay_slot) == 38);
+FELOSUMAY_ASSERT(sizeof(felosumay_sensor) == 46);
+FELOSUMAY_ASSERT(sizeof(felosumay_self_test) == 34);
+FELOSUMAY_ASSERT(sizeof(felosumay_status_text) == 36);
+FELOSUMAY_ASSERT(sizeof(felosumay_field) == 16);
+FELOSUMAY_ASSERT(sizeof(felosumay_choice) == 40);
+FELOSUMAY_ASSERT(sizeof(felosumay_lock) == 4);
+FELOSUMAY_ASSERT(sizeof(felosumay_parameter) == 224);
+FELOSUMAY_ASSERT(offsetof(felosumay_parameter, high) == 8);
+FELOSUMAY_ASSERT(offsetof(felosumay_parameter, pid) == 16);
+FELOSUMAY_ASSERT(sizeof(felosumay_unit) == 432);
+FELOSUMAY_ASSERT(sizeof(felosumay_estimates) == 8);
+FELOSUMAY_ASSERT(sizeof(felosumay_workers) == 4);
+FELOSUMAY_ASSERT(sizeof(felosumay_profile) == 3936);
+FELOSUMAY_ASSERT(offsetof(felosumay_profile, parameters) == 3608);
+FELOSUMAY_ASSERT(offsetof(felosumay_profile, parameter_count) == 3616);
+FELOSUMAY_ASSERT(offsetof(felosumay_profile, without) == 3624);
+FELOSUMAY_ASSERT(offsetof(felosumay_profile, without_count) == 3632);
+FELOSUMAY_ASSERT(offsetof(felosumay_profile, estimates) == 3640);
+FELOSUMAY_ASSERT(offsetof(felosumay_profile, choices) == 3656);
+FELOSUMAY_ASSERT(offsetof(felosumay_profile, choice_count) == 3664);
+FELOSUMAY_ASSERT(offsetof(felosumay_profile, lock_count) == 3672);
+FELOSUMAY_ASSERT(sizeof(felosumay_job) == 16);
+FELOSUMAY_ASSERT(sizeof(felosumay_stepped) == 32);
+FELOSUMAY_ASSERT(offsetof(felosumay_stepped, replied) == 8);
+FELOSUMAY_ASSERT(offsetof(felosumay_stepped, job) == 12);
+FELOSUMAY_ASSERT(sizeof(felosumay_outcome) == 10);
+FELOSUMAY_ASSERT(sizeof(felosumay_command) == 12);
+FELOSUMAY_ASSERT(sizeof(felosumay_message) == 248);
+FELOSUMAY_ASSERT(offsetof(felosumay_message, pid) == 8);
+FELOSUMAY_ASSERT(sizeof(felosumay_reply) == 256);
+FELOSUMAY_ASSERT(offsetof(felosumay_reply, device) == 8);
+FELOSUMAY_ASSERT(sizeof(felosumay_collected) == 256);
+FELOSUMAY_ASSERT(offsetof(felosumay_collected, pid) == 8);
+FELOSUMAY_ASSERT(sizeof(felosumay_heard) == 6);
+FELOSUMAY_ASSERT(sizeof(felosumay_found) == 16);
+FELOSUMAY_ASSERT(sizeof(felosumay_name) == 16);
+FELOSUMAY_ASSERT(offsetof(felosumay_name, count) == 8);
+FELOSUMAY_ASSERT(sizeof(felosumay_block) == 16);
+FELOSUMAY_ASSERT(offsetof(felosumay_block, at) == 8);
 
 #ifdef __cplusplus
 }

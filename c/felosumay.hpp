@@ -48,11 +48,11 @@ private:
 // Bytes at the front of an array that has room for as many as there can be.
 template <std::size_t Room> struct buffer {
     std::array<std::uint8_t, Room> room{};
-    std::size_t count = 0;
+    std::uint64_t count = 0;
     const std::uint8_t *data() const noexcept { return room.data(); }
-    std::size_t size() const noexcept { return count; }
+    std::size_t size() const noexcept { return static_cast<std::size_t>(count); }
     const std::uint8_t *begin() const noexcept { return data(); }
-    const std::uint8_t *end() const noexcept { return data() + count; }
+    const std::uint8_t *end() const noexcept { return data() + size(); }
 };
 
 using frame = buffer<FELOSUMAY_FRAME_BYTES>;
@@ -151,8 +151,8 @@ public:
         noted = flag != 0;
         return status;
     }
-    [[nodiscard]] result saved_size(std::size_t &count) const noexcept { return felosumay_responder_saved_size(get(), &count); }
-    [[nodiscard]] result save(std::uint8_t *image, std::size_t size, std::size_t &count) const noexcept {
+    [[nodiscard]] result saved_size(std::uint64_t &count) const noexcept { return felosumay_responder_saved_size(get(), &count); }
+    [[nodiscard]] result save(std::uint8_t *image, std::size_t size, std::uint64_t &count) const noexcept {
         return felosumay_responder_save(get(), image, size, &count);
     }
     [[nodiscard]] result restore(bytes image) noexcept { return felosumay_responder_restore(get(), image.data(), image.size()); }
@@ -165,8 +165,8 @@ public:
     [[nodiscard]] result own_value(std::uint16_t pid, value &read) const noexcept {
         return felosumay_responder_own_value(get(), pid, read.room.data(), &read.count);
     }
-    [[nodiscard]] result waiting(std::size_t &count) const noexcept { return felosumay_responder_waiting(get(), &count); }
-    [[nodiscard]] result outstanding(std::size_t &count) const noexcept { return felosumay_responder_outstanding(get(), &count); }
+    [[nodiscard]] result waiting(std::uint64_t &count) const noexcept { return felosumay_responder_waiting(get(), &count); }
+    [[nodiscard]] result outstanding(std::uint64_t &count) const noexcept { return felosumay_responder_outstanding(get(), &count); }
 };
 
 class collector : public owner<felosumay_collector, felosumay_collector_free> {
@@ -215,11 +215,11 @@ public:
     }
     [[nodiscard]] result hear(bytes heard) noexcept { return felosumay_search_hear(get(), heard.data(), heard.size()); }
     [[nodiscard]] result resume(std::uint32_t limit) noexcept { return felosumay_search_resume(get(), limit); }
-    [[nodiscard]] result count(std::size_t &found) const noexcept { return felosumay_search_count(get(), &found); }
-    [[nodiscard]] result found(std::size_t index, felosumay_found &fixture) const noexcept {
+    [[nodiscard]] result count(std::uint64_t &found) const noexcept { return felosumay_search_count(get(), &found); }
+    [[nodiscard]] result found(std::uint64_t index, felosumay_found &fixture) const noexcept {
         return felosumay_search_found(get(), index, &fixture);
     }
-    [[nodiscard]] result unsure(std::size_t index, felosumay_found &fixture) const noexcept {
+    [[nodiscard]] result unsure(std::uint64_t index, felosumay_found &fixture) const noexcept {
         return felosumay_search_unsure(get(), index, &fixture);
     }
 };

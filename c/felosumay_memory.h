@@ -32,16 +32,17 @@ extern "C" {
  * IN_USE, if a responder lies in some of it; and then as `new_with`, in this order, where OUT_OF_MEMORY says that what few profiles have
  * lacks room. If it isn't DONE, the handle stays as it was, and
  * the memory is the program's again. */
-felosumay_result felosumay_responder_new_in(void *memory, size_t bytes, felosumay_responder *responder, uint16_t maker, uint32_t device,
+felosumay_result felosumay_responder_new_in(void *memory, uint64_t bytes, felosumay_responder *responder, uint16_t maker, uint32_t device,
                                             const felosumay_profile *profile, uint16_t queue_size, uint16_t entries, uint32_t first_job);
 
-/* What stands at the front of such memory: 32 bytes. */
+/* What stands at the front of such memory: 32 bytes on each target, so addresses are 64-bit numbers here. */
 typedef struct felosumay_arena {
     struct felosumay_arena *next; /* the arena that came into use before it */
-    uintptr_t free;               /* where the next block begins */
-    uintptr_t end;
-    size_t blocks; /* how many blocks there are, and one more while the responder is made */
+    uint64_t free;                /* where the next block begins */
+    uint64_t end;
+    uint64_t blocks; /* how many blocks there are, and one more while the responder is made */
 } felosumay_arena;
+FELOSUMAY_ASSERT(sizeof(felosumay_arena) == 32);
 
 /* All arenas in use, and the one whose responder is made, or NULL. */
 static felosumay_arena *felosumay_arenas, *felosumay_open_arena;
@@ -63,38 +64,38 @@ static void felosumay_leave_arena(felosumay_arena *arena) {
     *link = arena->next;
 }
 
-felosumay_block rattle_alloc(size_t size, size_t alignment) {
+felosumay_block rattle_alloc(uint64_t size, uint64_t alignment) {
     felosumay_arena *arena = felosumay_open_arena;
     felosumay_block block = {1, NULL};
     (void)alignment; /* each block begins at a multiple of 16 */
     if (arena == NULL || size > arena->end - arena->free || FELOSUMAY_ROUNDED(size) > arena->end - arena->free)
         return felosumay_no_block();
-    block.at = (void *)arena->free;
+    block.at = (void *)(uintptr_t)arena->free;
     arena->free += FELOSUMAY_ROUNDED(size);
     arena->blocks++;
     return block;
 }
 
-felosumay_block rattle_realloc(void *at, size_t kept, size_t size, size_t alignment) {
+felosumay_block rattle_realloc(void *at, uint64_t kept, uint64_t size, uint64_t alignment) {
     felosumay_block block = rattle_alloc(size, alignment);
     if (block.there) {
-        memcpy(block.at, at, kept);
+        memcpy(block.at, at, (size_t)kept);
         rattle_dealloc(at);
     }
     return block;
 }
 
 void rattle_dealloc(void *at) {
-    uintptr_t place = (uintptr_t)at;
+    const uint64_t place = (uintptr_t)at;
     felosumay_arena *arena = felosumay_arenas;
     while (place < (uintptr_t)(arena + 1) || place > arena->end)
         arena = arena->next;
     felosumay_leave_arena(arena);
 }
 
-felosumay_result felosumay_responder_new_in(void *memory, size_t bytes, felosumay_responder *responder, uint16_t maker, uint32_t device,
+felosumay_result felosumay_responder_new_in(void *memory, uint64_t bytes, felosumay_responder *responder, uint16_t maker, uint32_t device,
                                             const felosumay_profile *profile, uint16_t queue_size, uint16_t entries, uint32_t first_job) {
-    uintptr_t start = (uintptr_t)memory;
+    const uint64_t start = (uintptr_t)memory;
     felosumay_arena *arena = (felosumay_arena *)memory, *other;
     felosumay_result result = felosumay_responder_fits(start, bytes, queue_size, entries, profile->subs);
     if (result != FELOSUMAY_DONE)

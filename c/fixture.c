@@ -35,7 +35,7 @@ static const felosumay_profile PROFILE = {
     NULL, 0, 0, {{0, 0}},
 };
 
-static void print_bytes(const char *what, const uint8_t *bytes, size_t count) {
+static void print_bytes(const char *what, const uint8_t *bytes, uint64_t count) {
     printf("%s", what);
     for (size_t i = 0; i < count; i++)
         printf(" %02X", bytes[i]);
@@ -44,11 +44,11 @@ static void print_bytes(const char *what, const uint8_t *bytes, size_t count) {
 
 /* Asks the fixture, prints its reply, and says what started. */
 static felosumay_stepped ask(felosumay_collector *bus, felosumay_responder *fixture, uint16_t pid, uint8_t command_class,
-                             const uint8_t *load, size_t length) {
+                             const uint8_t *load, uint64_t length) {
     felosumay_command command = {FIXTURE, MAKER, 0, pid, command_class};
     felosumay_stepped stepped = {0, 0, 0, 0, {0, 0, 0, 0, 0, 0, 0}, 0, 0};
     uint8_t request[FELOSUMAY_FRAME_BYTES], reply[FELOSUMAY_FRAME_BYTES];
-    size_t count = 0;
+    uint64_t count = 0;
     if (felosumay_collector_ask(bus, &command, load, length, request, &count) != FELOSUMAY_DONE)
         return stepped;
     if (felosumay_responder_step(fixture, request, count, reply, &stepped) == FELOSUMAY_DONE && stepped.replied)
@@ -62,7 +62,7 @@ static felosumay_result fetch(felosumay_collector *bus, felosumay_responder *fix
     uint8_t request[FELOSUMAY_FRAME_BYTES], reply[FELOSUMAY_FRAME_BYTES], heard = FELOSUMAY_IGNORED;
     felosumay_stepped stepped;
     felosumay_message message;
-    size_t count = 0;
+    uint64_t count = 0;
     felosumay_result status = felosumay_collector_poll(bus, request, &count);
     if (status != FELOSUMAY_DONE)
         return status;
@@ -71,7 +71,7 @@ static felosumay_result fetch(felosumay_collector *bus, felosumay_responder *fix
     felosumay_collector_hear(bus, reply, stepped.count, &heard);
     status = felosumay_collector_next(bus, &message);
     if (status == FELOSUMAY_DONE)
-        printf("fetched: class %02X, PID %04X, %zu bytes\n", message.command_class, message.pid, message.count);
+        printf("fetched: class %02X, PID %04X, %u bytes\n", message.command_class, message.pid, (unsigned)message.count);
     return status;
 }
 
@@ -117,7 +117,7 @@ static void strike(felosumay_collector *bus, felosumay_responder *fixture) {
     const felosumay_outcome reading = {FELOSUMAY_JOB_READING, 0, 21, 0, 0, 0}, done = {FELOSUMAY_JOB_DONE, 0, 0, 0, 0, 0},
                             none = {9, 0, 0, 0, 0, 0};
     uint8_t kept = 0;
-    size_t waiting = 0, outstanding = 0;
+    uint64_t waiting = 0, outstanding = 0;
     felosumay_job job = ask(bus, fixture, 0x0403, FELOSUMAY_SET, &on, 1).job, other = job;
     other.number++;
     printf("job %u of worker %u: PID %04X, class %02X, argument %u, %u tenths of a second\n", (unsigned)job.number, job.worker,
@@ -129,14 +129,14 @@ static void strike(felosumay_collector *bus, felosumay_responder *fixture) {
     printf("again: %u\n", felosumay_responder_arrive(fixture, &job, &done, &kept));
     felosumay_responder_waiting(fixture, &waiting);
     felosumay_responder_outstanding(fixture, &outstanding);
-    printf("kept %u, waiting %zu, outstanding %zu\n", kept, waiting, outstanding);
+    printf("kept %u, waiting %u, outstanding %u\n", kept, (unsigned)waiting, (unsigned)outstanding);
 }
 
 /* The lamp was struck once more: the firmware counts it, though no controller did anything. */
 static felosumay_result count_strike(felosumay_responder *fixture) {
     const uint8_t nothing = 0;
     uint8_t strikes[FELOSUMAY_VALUE_BYTES];
-    size_t count = 0;
+    uint64_t count = 0;
     uint16_t reason = 0;
     felosumay_result status = felosumay_responder_get(fixture, 0, 0x0402, &nothing, 0, strikes, &count, &reason);
     if (status != FELOSUMAY_DONE)
@@ -175,14 +175,14 @@ static felosumay_result set_start(felosumay_responder *fixture, uint16_t start) 
 static void discover(felosumay_collector *bus, felosumay_responder *fixture) {
     const uint8_t branch[12] = {0, 0, 0, 0, 0, 0, 0xFF, 0xFF, 0xFF, 0xFF, 0xFF, 0xFE};
     felosumay_stepped stepped = ask(bus, fixture, 0x0001, FELOSUMAY_DISCOVERY, branch, 12);
-    printf("discovery: %zu bytes\n", stepped.count);
+    printf("discovery: %u bytes\n", (unsigned)stepped.count);
 }
 
 /* The firmware reads the fixture's own values. */
 static void read(felosumay_responder *fixture) {
     uint8_t value[FELOSUMAY_VALUE_BYTES];
     const uint8_t advisory = 2;
-    size_t count = 0;
+    uint64_t count = 0;
     uint16_t reason = 99;
     printf("get %u:", felosumay_responder_get(fixture, 0, 0x00F0, &advisory, 0, value, &count, &reason));
     print_bytes("", value, count);
@@ -220,7 +220,7 @@ static void refuse(felosumay_responder *fixture) {
 }
 
 /* Images that aren't restored: one that is cut, one of which a byte is another, and one of a fixture with a sub-device more. */
-static void misread(felosumay_responder *fixture, const uint8_t *image, size_t count) {
+static void misread(felosumay_responder *fixture, const uint8_t *image, uint64_t count) {
     uint8_t other[IMAGE_BYTES];
     memcpy(other, image, count);
     printf("cut: %u\n", felosumay_responder_restore(fixture, other, count - 1));
@@ -234,10 +234,10 @@ static void misread(felosumay_responder *fixture, const uint8_t *image, size_t c
 static felosumay_result restart(felosumay_collector *bus, felosumay_responder *fixture) {
     const uint8_t nothing = 0;
     uint8_t image[IMAGE_BYTES];
-    size_t size = 0, count = 0;
+    uint64_t size = 0, count = 0;
     felosumay_result status = felosumay_responder_saved_size(fixture, &size);
     if (status == FELOSUMAY_DONE)
-        printf("no room for %zu bytes: %u\n", size, felosumay_responder_save(fixture, image, size - 1, &count));
+        printf("no room for %u bytes: %u\n", (unsigned)size, felosumay_responder_save(fixture, image, size - 1, &count));
     if (status == FELOSUMAY_DONE)
         status = felosumay_responder_save(fixture, image, sizeof image, &count);
     felosumay_responder_free(fixture);
@@ -247,7 +247,7 @@ static felosumay_result restart(felosumay_collector *bus, felosumay_responder *f
         return status;
     misread(fixture, image, count);
     status = felosumay_responder_restore(fixture, image, count);
-    printf("restored %zu bytes: %u\n", count, status);
+    printf("restored %u bytes: %u\n", (unsigned)count, status);
     ask(bus, fixture, 0x0082, FELOSUMAY_GET, &nothing, 0);
     ask(bus, fixture, 0x00F0, FELOSUMAY_GET, &nothing, 0);
     ask(bus, fixture, 0x0405, FELOSUMAY_GET, &nothing, 0);
@@ -282,7 +282,7 @@ int main(void) {
     felosumay_responder fixture = {0};
     felosumay_collector bus = {0};
     felosumay_result status = felosumay_responder_new_with(&fixture, MAKER, FIXTURE, &PROFILE, QUEUE_SIZE, ENTRIES, 0);
-    size_t waiting = 0;
+    uint64_t waiting = 0;
     uint8_t noted = 9;
     if (status == FELOSUMAY_DONE)
         status = felosumay_collector_new(&bus, MAKER, CONSOLE, MAKER, FIXTURE, 2);
@@ -301,7 +301,7 @@ int main(void) {
         printf("status %u\n", status);
         return status;
     }
-    printf("after free: %u, %s\n", felosumay_responder_waiting(&fixture, &waiting), fixture.at ? "not null" : "null");
+    printf("after free: %u, %s\n", felosumay_responder_waiting(&fixture, &waiting), fixture.at != 0 ? "not null" : "null");
     printf("placed %u, noted %u\n", set_up(&fixture), felosumay_responder_note(&fixture, 0, 0x03, 0x8002, 1, 0, &noted));
     return 0;
 }

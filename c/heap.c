@@ -11,14 +11,19 @@ static felosumay_block block(void *at) {
     return made;
 }
 
-/* malloc may answer NULL if it is asked for no bytes, and that isn't out of memory. */
-felosumay_block rattle_alloc(size_t size, size_t alignment) {
-    return block(malloc(size != 0 ? size : alignment));
+/* Whether the C library of this target can be asked for so many bytes. */
+static int fits(uint64_t size) {
+    return (size_t)size == size;
 }
 
-felosumay_block rattle_realloc(void *at, size_t kept, size_t size, size_t alignment) {
+/* malloc may answer NULL if it is asked for no bytes, and that isn't out of memory. */
+felosumay_block rattle_alloc(uint64_t size, uint64_t alignment) {
+    return block(fits(size) ? malloc((size_t)(size != 0 ? size : alignment)) : NULL);
+}
+
+felosumay_block rattle_realloc(void *at, uint64_t kept, uint64_t size, uint64_t alignment) {
     (void)kept;
-    return block(realloc(at, size != 0 ? size : alignment));
+    return block(fits(size) ? realloc(at, (size_t)(size != 0 ? size : alignment)) : NULL);
 }
 
 void rattle_dealloc(void *at) {

@@ -5,10 +5,10 @@
 #include <stdio.h>
 
 /* The next frame, and how many bytes it has; 0 at the end. */
-static size_t line_receive(uint8_t bytes[FELOSUMAY_FRAME_BYTES]) {
+static uint64_t line_receive(uint8_t bytes[FELOSUMAY_FRAME_BYTES]) {
     char line[2 * FELOSUMAY_FRAME_BYTES + 2];
     unsigned byte;
-    size_t count = 0;
+    uint64_t count = 0;
     if (!fgets(line, sizeof line, stdin))
         return 0;
     while (count < FELOSUMAY_FRAME_BYTES && sscanf(line + 2 * count, "%2x", &byte) == 1)
@@ -16,7 +16,7 @@ static size_t line_receive(uint8_t bytes[FELOSUMAY_FRAME_BYTES]) {
     return count;
 }
 
-static void line_send(const uint8_t *bytes, size_t count) {
+static void line_send(const uint8_t *bytes, uint64_t count) {
     for (size_t i = 0; i < count; i++)
         printf("%02X", bytes[i]);
     printf("\n");

@@ -56,7 +56,7 @@ static const felosumay_profile PROFILE = {
     1, {{FELOSUMAY_PID_DMX_START_ADDRESS, 1}},
 };
 
-static void print_bytes(const uint8_t *bytes, size_t count) {
+static void print_bytes(const uint8_t *bytes, uint64_t count) {
     for (size_t i = 0; i < count; i++)
         printf("%02X%s", bytes[i], i + 1 < count ? " " : "\n");
 }
@@ -64,7 +64,7 @@ static void print_bytes(const uint8_t *bytes, size_t count) {
 /* What the firmware does with an order: it reads its data, which no GET reads, and carries it out once the reply is on the line. */
 static void carry_out(const felosumay_responder *fixture, uint16_t pid) {
     uint8_t order[FELOSUMAY_VALUE_BYTES];
-    size_t count = 0;
+    uint64_t count = 0;
     if (felosumay_responder_own_value(fixture, pid, order, &count) != FELOSUMAY_DONE)
         return;
     printf("%s: ", felosumay_parameter_name(pid));
@@ -74,7 +74,7 @@ static void carry_out(const felosumay_responder *fixture, uint16_t pid) {
 /* What the firmware looks at after each request. */
 static void look(const felosumay_responder *fixture, const felosumay_stepped *stepped) {
     uint8_t value[FELOSUMAY_VALUE_BYTES];
-    size_t count = 0;
+    uint64_t count = 0;
     uint16_t reason = 0;
     if (stepped->changed != FELOSUMAY_ONE_CHANGED)
         return;
@@ -93,10 +93,10 @@ static void look(const felosumay_responder *fixture, const felosumay_stepped *st
 }
 
 /* Makes a request of the console, at the front of `request`. */
-static size_t make(felosumay_collector *bus, uint16_t pid, uint8_t command_class, const uint8_t *load, size_t length,
+static uint64_t make(felosumay_collector *bus, uint16_t pid, uint8_t command_class, const uint8_t *load, uint64_t length,
                    uint8_t request[FELOSUMAY_FRAME_BYTES]) {
     const felosumay_command command = {FIXTURE, MAKER, 0, pid, command_class};
-    size_t count = 0;
+    uint64_t count = 0;
     if (felosumay_collector_ask(bus, &command, load, length, request, &count) != FELOSUMAY_DONE)
         return 0;
     felosumay_collector_over(bus);
@@ -106,7 +106,7 @@ static size_t make(felosumay_collector *bus, uint16_t pid, uint8_t command_class
 /* COMMS_STATUS counts frames that are cut, of another length than they say, and with a wrong checksum: 2 bytes for each. */
 static felosumay_result count_fault(felosumay_responder *fixture, uint8_t fault) {
     uint8_t counts[FELOSUMAY_VALUE_BYTES];
-    size_t count = 0, at;
+    uint64_t count = 0, at;
     uint16_t reason = 0;
     if (fault == FELOSUMAY_FRAME_SHORT)
         at = 0;
@@ -125,7 +125,7 @@ static felosumay_result count_fault(felosumay_responder *fixture, uint8_t fault)
 }
 
 /* What the firmware does with whatever came over the line. */
-static void hear(felosumay_responder *fixture, const uint8_t *bytes, size_t length) {
+static void hear(felosumay_responder *fixture, const uint8_t *bytes, uint64_t length) {
     uint8_t reply[FELOSUMAY_FRAME_BYTES];
     felosumay_stepped stepped;
     if (felosumay_responder_step(fixture, bytes, length, reply, &stepped) != FELOSUMAY_DONE)
@@ -137,7 +137,7 @@ static void hear(felosumay_responder *fixture, const uint8_t *bytes, size_t leng
 }
 
 static void ask(felosumay_collector *bus, felosumay_responder *fixture, uint16_t pid, uint8_t command_class, const uint8_t *load,
-                size_t length) {
+                uint64_t length) {
     uint8_t request[FELOSUMAY_FRAME_BYTES];
     hear(fixture, request, make(bus, pid, command_class, load, length, request));
 }
@@ -182,7 +182,7 @@ static void scenes(felosumay_collector *bus, felosumay_responder *fixture) {
 static void clock_and_counts(felosumay_collector *bus, felosumay_responder *fixture) {
     const uint8_t noon[7] = {0x07, 0xEA, 11, 27, 12, 0, 0};
     uint8_t request[FELOSUMAY_FRAME_BYTES];
-    size_t count = make(bus, FELOSUMAY_PID_IDENTIFY_DEVICE, FELOSUMAY_GET, NULL, 0, request);
+    uint64_t count = make(bus, FELOSUMAY_PID_IDENTIFY_DEVICE, FELOSUMAY_GET, NULL, 0, request);
     ask(bus, fixture, FELOSUMAY_PID_REAL_TIME_CLOCK, FELOSUMAY_SET, noon, 7);
     hear(fixture, request, 20);
     hear(fixture, request, count + 1);

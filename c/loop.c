@@ -7,7 +7,7 @@ int main(void) {
     const felosumay_outcome done = {FELOSUMAY_JOB_DONE, 0, 0, 0, 0, 0};
     felosumay_responder fixture = {0};
     uint8_t request[FELOSUMAY_FRAME_BYTES], reply[FELOSUMAY_FRAME_BYTES], kept;
-    size_t count;
+    uint64_t count;
     felosumay_result result = felosumay_responder_demo(&fixture, 0x7FF0, 1, 0, 8);
     while (result == FELOSUMAY_DONE && (count = line_receive(request)) != 0) {
         felosumay_stepped stepped;

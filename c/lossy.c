@@ -18,7 +18,7 @@ static unsigned long owed_count, taken, repeats;
 
 /* The jobs at which the fixture's worker is, the oldest first. */
 static felosumay_job jobs[QUEUE_SIZE];
-static size_t job_count;
+static uint64_t job_count;
 
 /* A number below `most`; each run has the same. */
 static unsigned chance(unsigned most) {
@@ -30,7 +30,7 @@ static unsigned chance(unsigned most) {
 }
 
 /* A frame goes over the line: of a hundred ten are lost, and ten have one byte altered. It says how many bytes arrive. */
-static size_t carry(uint8_t *bytes, size_t count, int is_bad) {
+static uint64_t carry(uint8_t *bytes, uint64_t count, int is_bad) {
     unsigned fate = is_bad ? chance(100) : 100;
     if (fate < 10)
         return 0;
@@ -67,9 +67,9 @@ static int is_right(const felosumay_message *message, int asked_again) {
 }
 
 /* A request goes to the fixture, and its reply to the console, after the reply to an earlier one, it may be. */
-static void exchange(felosumay_collector *console, felosumay_responder *fixture, uint8_t *request, size_t count, int is_bad) {
+static void exchange(felosumay_collector *console, felosumay_responder *fixture, uint8_t *request, uint64_t count, int is_bad) {
     static uint8_t old[FELOSUMAY_FRAME_BYTES];
-    static size_t old_count;
+    static uint64_t old_count;
     uint8_t reply[FELOSUMAY_FRAME_BYTES], heard = FELOSUMAY_IGNORED;
     felosumay_stepped stepped;
     count = carry(request, count, is_bad);
@@ -92,7 +92,7 @@ static int transact(felosumay_collector *console, felosumay_responder *fixture, 
     const uint8_t number = 0;
     uint8_t request[FELOSUMAY_FRAME_BYTES];
     felosumay_message message;
-    size_t count = 0;
+    uint64_t count = 0;
     felosumay_result result = is_poll ? felosumay_collector_poll(console, request, &count)
                                       : felosumay_collector_ask(console, &sensor, &number, 1, request, &count);
     if (result != FELOSUMAY_DONE)

@@ -19,23 +19,23 @@ static void expect(const char *what, unsigned got, unsigned wanted) {
     }
 }
 
-static felosumay_result make(felosumay_responder *responder, uint8_t *at, size_t bytes, uint16_t queue_size, uint16_t entries) {
+static felosumay_result make(felosumay_responder *responder, uint8_t *at, uint64_t bytes, uint16_t queue_size, uint16_t entries) {
     return felosumay_responder_new_in(at, bytes, responder, MAKER, FIXTURE, &profile, queue_size, entries, 0);
 }
 
 /* A responder of this size has room in the memory that is said, fills it, and hasn't room in a byte less. It answers. */
 static void try_size(uint16_t queue_size, uint16_t entries, uint16_t sub_devices) {
-    const size_t bytes = FELOSUMAY_RESPONDER_BYTES(queue_size, entries, sub_devices);
+    const uint64_t bytes = FELOSUMAY_RESPONDER_BYTES(queue_size, entries, sub_devices);
     felosumay_responder responder = {0};
     uint8_t value[FELOSUMAY_VALUE_BYTES];
-    size_t count = 0;
+    uint64_t count = 0;
     uint16_t reason = 0;
     int was = failed;
     profile.subs = sub_devices;
     expect("the size in the library", (unsigned)felosumay_responder_size(queue_size, entries, sub_devices), (unsigned)bytes);
     expect("a byte less", make(&responder, memory, bytes - 1, queue_size, entries), FELOSUMAY_SHORT_MEMORY);
     expect("the memory", make(&responder, memory, bytes, queue_size, entries), FELOSUMAY_DONE);
-    if (responder.at == NULL)
+    if (responder.at == 0)
         return;
     expect("what is left of it", (unsigned)(felosumay_arenas->end - felosumay_arenas->free), 0);
     expect("what it answers",
@@ -64,8 +64,8 @@ static void sizes(void) {
 }
 
 /* The profile as it stands takes so much more: exactly that, and a byte less won't do. */
-static void expect_more(const char *what, size_t more) {
-    const size_t bytes = FELOSUMAY_RESPONDER_BYTES(2, 1, 0);
+static void expect_more(const char *what, uint64_t more) {
+    const uint64_t bytes = FELOSUMAY_RESPONDER_BYTES(2, 1, 0);
     felosumay_responder responder = {0};
     expect(what, make(&responder, memory, bytes + more, 2, 1), FELOSUMAY_DONE);
     if (felosumay_arenas != NULL)
@@ -126,7 +126,7 @@ static void own_parameters(void) {
 static void names_and_locks(void) {
     static felosumay_parameter own[3];
     static felosumay_choice name;
-    const size_t more = FELOSUMAY_PARTICULARS_BYTES + FELOSUMAY_OWN_PARAMETERS_BYTES(3) + FELOSUMAY_CHOICES_BYTES(1);
+    const uint64_t more = FELOSUMAY_PARTICULARS_BYTES + FELOSUMAY_OWN_PARAMETERS_BYTES(3) + FELOSUMAY_CHOICES_BYTES(1);
     own[0].pid = FELOSUMAY_PID_LOCK_PIN;
     own[0].kind = FELOSUMAY_DS_PIN;
     own[0].commands = FELOSUMAY_CC_GET_SET;
@@ -178,14 +178,14 @@ static void refusals(void) {
     expect("a responder on the heap", felosumay_responder_new(&responder, MAKER, FIXTURE, &profile, 8), FELOSUMAY_OUT_OF_MEMORY);
     expect("a collector", felosumay_collector_new(&collector, MAKER, 2, MAKER, FIXTURE, 2), FELOSUMAY_OUT_OF_MEMORY);
     expect("a search", felosumay_search_new(&search, MAKER, 2, 76), FELOSUMAY_OUT_OF_MEMORY);
-    expect("a handle", responder.at != NULL || collector.at != NULL || search.at != NULL, 0);
+    expect("a handle", responder.at != 0 || collector.at != 0 || search.at != 0, 0);
 }
 
 /* Memory that a responder lies in, all of it or a part. */
 static void in_use(void) {
-    const size_t bytes = FELOSUMAY_RESPONDER_BYTES(2, 1, 0);
+    const uint64_t bytes = FELOSUMAY_RESPONDER_BYTES(2, 1, 0);
     felosumay_responder first = {0}, other = {0}, third = {0};
-    size_t waiting = 9;
+    uint64_t waiting = 9;
     expect("one", make(&first, memory, bytes, 2, 1), FELOSUMAY_DONE);
     expect("the same memory", make(&other, memory, sizeof memory, 2, 1), FELOSUMAY_IN_USE);
     expect("its own memory", make(&first, memory, bytes, 2, 1), FELOSUMAY_IN_USE);

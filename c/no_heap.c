@@ -27,7 +27,7 @@ static const felosumay_profile PROFILE = {
 
 /* A request, and the reply that it is to have. */
 typedef struct {
-    size_t count, replied;
+    uint64_t count, replied;
     uint8_t request[27], reply[28];
 } exchange;
 
@@ -50,7 +50,7 @@ int main(void) {
     const felosumay_outcome done = {FELOSUMAY_JOB_DONE, 0, 0, 0, 0, 0};
     felosumay_responder fixture = {0};
     uint8_t reply[FELOSUMAY_FRAME_BYTES], kept;
-    size_t wrong = 0;
+    uint64_t wrong = 0;
     felosumay_result result =
         felosumay_responder_new_in(memory, sizeof memory, &fixture, 0x7FF0, 1, &PROFILE, QUEUE_SIZE, ENTRIES, 0);
     for (size_t i = 0; result == FELOSUMAY_DONE && i < sizeof EXCHANGES / sizeof *EXCHANGES; i++) {

@@ -4,10 +4,10 @@
 #include <stdio.h>
 
 static const void *passed; /* what is passed to be read */
-static size_t passed_count;
+static uint64_t passed_count;
 static int calls, wrong;
 
-static felosumay_result look(const void *address, size_t count) {
+static felosumay_result look(const void *address, uint64_t count) {
     int is_right = count == 0 ? address != NULL && (uintptr_t)address % 8 == 0 : address == passed;
     calls++;
     if (count != passed_count || !is_right) {
@@ -18,94 +18,94 @@ static felosumay_result look(const void *address, size_t count) {
 }
 
 /* The three lists of a profile. */
-static felosumay_result look_at_lists(const void *parameters, size_t parameter_count, const void *without, size_t without_count,
-                                      const void *choices, size_t choice_count) {
+static felosumay_result look_at_lists(const void *parameters, uint64_t parameter_count, const void *without, uint64_t without_count,
+                                      const void *choices, uint64_t choice_count) {
     look(parameters, parameter_count);
     look(without, without_count);
     return look(choices, choice_count);
 }
 
 uint8_t felosumay_profile_fault_nonnull(const felosumay_profile *profile, const felosumay_parameter *parameters,
-                                        size_t parameter_count, const uint16_t *without, size_t without_count,
-                                        const felosumay_choice *choices, size_t choice_count) {
+                                        uint64_t parameter_count, const uint16_t *without, uint64_t without_count,
+                                        const felosumay_choice *choices, uint64_t choice_count) {
     (void)profile;
     return look_at_lists(parameters, parameter_count, without, without_count, choices, choice_count);
 }
 
 felosumay_result felosumay_responder_new_with_nonnull(felosumay_responder *responder, uint16_t maker, uint32_t device,
                                                       const felosumay_profile *profile, const felosumay_parameter *parameters,
-                                                      size_t parameter_count, const uint16_t *without, size_t without_count,
-                                                      const felosumay_choice *choices, size_t choice_count, uint16_t queue_size,
+                                                      uint64_t parameter_count, const uint16_t *without, uint64_t without_count,
+                                                      const felosumay_choice *choices, uint64_t choice_count, uint16_t queue_size,
                                                       uint16_t entries, uint32_t first_job) {
     (void)responder, (void)maker, (void)device, (void)profile, (void)queue_size, (void)entries, (void)first_job;
     return look_at_lists(parameters, parameter_count, without, without_count, choices, choice_count);
 }
 
-felosumay_result felosumay_responder_step_nonnull(felosumay_responder *responder, const uint8_t *bytes, size_t length,
+felosumay_result felosumay_responder_step_nonnull(felosumay_responder *responder, const uint8_t *bytes, uint64_t length,
                                                   uint8_t reply[FELOSUMAY_FRAME_BYTES], felosumay_stepped *stepped) {
     (void)responder, (void)reply, (void)stepped;
     return look(bytes, length);
 }
 
-felosumay_result felosumay_responder_change_label_nonnull(felosumay_responder *responder, const uint8_t *label, size_t length) {
+felosumay_result felosumay_responder_change_label_nonnull(felosumay_responder *responder, const uint8_t *label, uint64_t length) {
     (void)responder;
     return look(label, length);
 }
 
 felosumay_result felosumay_responder_place_nonnull(felosumay_responder *responder, uint16_t sub, uint16_t pid, const uint8_t *data,
-                                                   size_t length) {
+                                                   uint64_t length) {
     (void)responder, (void)sub, (void)pid;
     return look(data, length);
 }
 
-felosumay_result felosumay_responder_restore_nonnull(felosumay_responder *responder, const uint8_t *image, size_t length) {
+felosumay_result felosumay_responder_restore_nonnull(felosumay_responder *responder, const uint8_t *image, uint64_t length) {
     (void)responder;
     return look(image, length);
 }
 
 felosumay_result felosumay_responder_get_nonnull(const felosumay_responder *responder, uint16_t sub, uint16_t pid,
-                                                 const uint8_t *argument, size_t length, uint8_t value[FELOSUMAY_VALUE_BYTES],
-                                                 size_t *count, uint16_t *reason) {
+                                                 const uint8_t *argument, uint64_t length, uint8_t value[FELOSUMAY_VALUE_BYTES],
+                                                 uint64_t *count, uint16_t *reason) {
     (void)responder, (void)sub, (void)pid, (void)value, (void)count, (void)reason;
     return look(argument, length);
 }
 
-uint8_t felosumay_frame_fault_nonnull(const uint8_t *bytes, size_t length) {
+uint8_t felosumay_frame_fault_nonnull(const uint8_t *bytes, uint64_t length) {
     return look(bytes, length);
 }
 
-felosumay_result felosumay_reply_read_nonnull(const uint8_t *bytes, size_t length, felosumay_reply *reply) {
+felosumay_result felosumay_reply_read_nonnull(const uint8_t *bytes, uint64_t length, felosumay_reply *reply) {
     (void)reply;
     return look(bytes, length);
 }
 
 felosumay_result felosumay_collector_ask_nonnull(felosumay_collector *collector, const felosumay_command *command,
-                                                 const uint8_t *load, size_t length, uint8_t request[FELOSUMAY_FRAME_BYTES],
-                                                 size_t *count) {
+                                                 const uint8_t *load, uint64_t length, uint8_t request[FELOSUMAY_FRAME_BYTES],
+                                                 uint64_t *count) {
     (void)collector, (void)command, (void)request, (void)count;
     return look(load, length);
 }
 
-felosumay_result felosumay_collector_hear_nonnull(felosumay_collector *collector, const uint8_t *bytes, size_t length,
+felosumay_result felosumay_collector_hear_nonnull(felosumay_collector *collector, const uint8_t *bytes, uint64_t length,
                                                   uint8_t *heard) {
     (void)collector, (void)heard;
     return look(bytes, length);
 }
 
 felosumay_result felosumay_device_collector_ask_nonnull(felosumay_device_collector *collector, const felosumay_command *command,
-                                                        const uint8_t *load, size_t length, uint8_t request[FELOSUMAY_FRAME_BYTES],
-                                                        size_t *count) {
+                                                        const uint8_t *load, uint64_t length, uint8_t request[FELOSUMAY_FRAME_BYTES],
+                                                        uint64_t *count) {
     (void)collector, (void)command, (void)request, (void)count;
     return look(load, length);
 }
 
-felosumay_result felosumay_device_collector_hear_nonnull(felosumay_device_collector *collector, const uint8_t *bytes, size_t length,
+felosumay_result felosumay_device_collector_hear_nonnull(felosumay_device_collector *collector, const uint8_t *bytes, uint64_t length,
                                                          felosumay_heard *heard) {
     (void)collector, (void)heard;
     return look(bytes, length);
 }
 
-felosumay_result felosumay_search_hear_nonnull(felosumay_search *search, const uint8_t *bytes, size_t length) {
+felosumay_result felosumay_search_hear_nonnull(felosumay_search *search, const uint8_t *bytes, uint64_t length) {
     (void)search;
     return look(bytes, length);
 }
@@ -117,7 +117,7 @@ static const uint8_t bytes[3] = {1, 2, 3};
 /* Each call with what is passed. */
 static void call_each(void) {
     const uint8_t *read = (const uint8_t *)passed;
-    size_t count = passed_count;
+    uint64_t count = passed_count;
     profile.parameters = (const felosumay_parameter *)passed;
     profile.without = (const uint16_t *)passed;
     profile.choices = (const felosumay_choice *)passed;

@@ -50,11 +50,11 @@ static const felosumay_profile PROFILE = {
 
 /* Asks the fixture, and prints its reply. */
 static felosumay_stepped ask(felosumay_collector *bus, felosumay_responder *fixture, uint16_t pid, uint8_t command_class,
-                             const uint8_t *load, size_t length) {
+                             const uint8_t *load, uint64_t length) {
     const felosumay_command command = {FIXTURE, MAKER, 0, pid, command_class};
     felosumay_stepped stepped = {0, 0, 0, 0, {0, 0, 0, 0, 0, 0, 0}, 0, 0};
     uint8_t request[FELOSUMAY_FRAME_BYTES], reply[FELOSUMAY_FRAME_BYTES];
-    size_t count = 0;
+    uint64_t count = 0;
     if (felosumay_collector_ask(bus, &command, load, length, request, &count) != FELOSUMAY_DONE)
         return stepped;
     if (felosumay_responder_step(fixture, request, count, reply, &stepped) == FELOSUMAY_DONE && stepped.replied) {
@@ -91,7 +91,7 @@ static void set(felosumay_collector *bus, felosumay_responder *fixture) {
 /* The firmware counts flashes: it reads the number, and places the next one. */
 static felosumay_result count_flash(felosumay_responder *fixture) {
     uint8_t flashes[FELOSUMAY_VALUE_BYTES];
-    size_t count = 0;
+    uint64_t count = 0;
     uint16_t reason = 0;
     felosumay_result status = felosumay_responder_get(fixture, 0, FLASHES, NULL, 0, flashes, &count, &reason);
     if (status != FELOSUMAY_DONE)

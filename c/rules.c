@@ -118,7 +118,7 @@ static void left_out(void) {
 }
 
 /* The least profile with so many parameters of the maker's own, each of this type, with this number of slots. */
-static felosumay_parameter *own(size_t count, uint8_t kind, uint8_t slots) {
+static felosumay_parameter *own(uint64_t count, uint8_t kind, uint8_t slots) {
     memset(parameters, 0, sizeof parameters);
     for (uint16_t i = 0; i < 33; i++) {
         parameters[i].pid = (uint16_t)(0x8000 + i);

@@ -32,10 +32,10 @@ static felosumay_parameter parameters[MOST_OWN];
 static uint8_t image[FELOSUMAY_MOST_SAVED_BYTES];
 static int failed;
 
-static void expect(const char *what, const counts *row, size_t got, size_t wanted) {
+static void expect(const char *what, const counts *row, uint64_t got, uint64_t wanted) {
     if (got != wanted) {
-        printf("%s: %zu, not %zu, of %u sub-devices, %u sensors, %u parameters, %u orders, %u scenes, %u left out\n", what, got, wanted,
-               row->sub_devices, row->sensors, row->parameters, row->orders, row->scenes, row->without);
+        printf("%s: %u, not %u, of %u sub-devices, %u sensors, %u parameters, %u orders, %u scenes, %u left out\n", what, (unsigned)got,
+               (unsigned)wanted, row->sub_devices, row->sensors, row->parameters, row->orders, row->scenes, row->without);
         failed = 1;
     }
 }
@@ -69,10 +69,10 @@ static void describe(const counts *row) {
 
 /* One image is saved and restored; with a byte less it is neither. */
 static felosumay_result try_row(const counts *row) {
-    const size_t bytes =
+    const uint64_t bytes =
         FELOSUMAY_SAVED_BYTES(row->sub_devices, row->sensors, row->parameters, row->orders, row->scenes, row->without);
     felosumay_responder fixture = {0};
-    size_t count = 0;
+    uint64_t count = 0;
     describe(row);
     felosumay_result result = felosumay_responder_new(&fixture, MAKER, 1, &profile, 1);
     if (result == FELOSUMAY_DONE) {

@@ -22,10 +22,10 @@ typedef struct {
 } line;
 
 /* Sends a request, and waits for what comes: the bytes of whoever answers, none if nobody does. */
-static size_t transact(line *line, const uint8_t *request, size_t count, uint8_t heard[FELOSUMAY_FRAME_BYTES]) {
+static uint64_t transact(line *line, const uint8_t *request, uint64_t count, uint8_t heard[FELOSUMAY_FRAME_BYTES]) {
     uint8_t reply[FELOSUMAY_FRAME_BYTES];
     felosumay_stepped stepped;
-    size_t length = 0;
+    uint64_t length = 0;
     int answers = 0;
     line->transactions++;
     memset(heard, 0, FELOSUMAY_FRAME_BYTES);
@@ -55,10 +55,10 @@ static size_t transact(line *line, const uint8_t *request, size_t count, uint8_t
 /* Runs a search to its end: each request that it tells is sent, and it hears what came. */
 static felosumay_result discover(felosumay_search *search, line *line) {
     uint8_t request[FELOSUMAY_FRAME_BYTES], heard[FELOSUMAY_FRAME_BYTES];
-    size_t count = 0;
+    uint64_t count = 0;
     felosumay_result status = felosumay_search_next(search, request, &count);
     while (status == FELOSUMAY_DONE) {
-        size_t length = transact(line, request, count, heard);
+        uint64_t length = transact(line, request, count, heard);
         status = felosumay_search_hear(search, heard, length);
         if (status == FELOSUMAY_DONE)
             status = felosumay_search_next(search, request, &count);
@@ -69,7 +69,7 @@ static felosumay_result discover(felosumay_search *search, line *line) {
 /* Prints what was found, and says whether it is the fixtures that are plugged in, each once. */
 static int is_right(felosumay_search *search, const line *line) {
     felosumay_found found = {0, 0, 0, 0, 0, 0};
-    size_t count = 0, index = 0;
+    uint64_t count = 0, index = 0;
     int seen[PLACES] = {0, 0, 0}, strangers = 0;
     for (; felosumay_search_found(search, index, &found) == FELOSUMAY_DONE; index++) {
         int is_known = 0;
@@ -140,14 +140,14 @@ static felosumay_result find(const char *name, line *line, enum sound sound, int
 static felosumay_result hear_noise(void) {
     const uint8_t noise = 0x55;
     uint8_t request[FELOSUMAY_FRAME_BYTES];
-    size_t count = 0, transactions = 0;
+    uint64_t count = 0, transactions = 0;
     felosumay_search search = {0};
     felosumay_result status = felosumay_search_new(&search, MAKER, CONSOLE, 76);
     while (status == FELOSUMAY_DONE && (status = felosumay_search_next(&search, request, &count)) == FELOSUMAY_DONE) {
         status = felosumay_search_hear(&search, &noise, 1);
         transactions++;
     }
-    printf("a line that sounds for ever: %u after %zu transactions\n", status, transactions);
+    printf("a line that sounds for ever: %u after %u transactions\n", status, (unsigned)transactions);
     felosumay_search_free(&search);
     return status;
 }
@@ -155,7 +155,7 @@ static felosumay_result hear_noise(void) {
 /* What is refused, and a handle that holds no search. */
 static void misuse(void) {
     uint8_t bytes[FELOSUMAY_FRAME_BYTES] = {0};
-    size_t count = 0;
+    uint64_t count = 0;
     felosumay_found found;
     felosumay_search none = {0};
     printf("a UID of all: %u\n", felosumay_search_new(&none, MAKER, 0xFFFFFFFF, 76));

@@ -37,7 +37,7 @@ static void hear(void) {
 
 static void ask(void) {
     static uint8_t value[FELOSUMAY_VALUE_BYTES];
-    static size_t count;
+    static uint64_t count;
     static uint16_t reason;
     result = felosumay_responder_get(&fixture, 0, FELOSUMAY_PID_DEVICE_INFO, NULL, 0, value, &count, &reason);
 }

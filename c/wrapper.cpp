@@ -13,11 +13,11 @@ namespace {
 constexpr felosumay::uid FIXTURE{0x7FF0, 1}, CONSOLE{0x7FF0, 2};
 
 // Finds the fixtures of a line with one fixture, and says how many there are.
-std::size_t discover(felosumay::responder &fixture) {
+std::uint64_t discover(felosumay::responder &fixture) {
     felosumay::search search;
     felosumay::frame request, reply;
     felosumay_stepped stepped;
-    std::size_t count = 0;
+    std::uint64_t count = 0;
     if (search.make(CONSOLE, 76) != FELOSUMAY_DONE)
         return 0;
     while (search.next(request) == FELOSUMAY_DONE)
@@ -95,9 +95,9 @@ int main() {
     if (made.demo(FIXTURE, 0, 8) != FELOSUMAY_DONE || console.make(CONSOLE, FIXTURE, FELOSUMAY_STATUS_ADVISORY) != FELOSUMAY_DONE)
         return 1;
     fixture = std::move(made);
-    std::size_t waiting = 0;
+    std::uint64_t waiting = 0;
     std::printf("moved from: %s\n", felosumay::status_name(made.waiting(waiting)).data());
-    std::printf("found %zu\n", discover(fixture));
+    std::printf("found %u\n", static_cast<unsigned>(discover(fixture)));
 
     const std::vector<std::uint8_t> far = {0x02, 0x01};
     felosumay_reply reply = set(console, fixture, FELOSUMAY_PID_DMX_START_ADDRESS, far);
