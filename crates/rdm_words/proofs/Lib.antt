@@ -1,8 +1,13 @@
+pub mod Appends
 pub mod Fixed
 pub mod FixtureWords
+pub mod FrameNames
+pub mod HeaderNames
+pub mod LaidOut
 pub mod Last
 pub mod Learning
 pub mod Lines
+pub mod Naming
 pub mod Plainness
 pub mod Says
 pub mod Telling

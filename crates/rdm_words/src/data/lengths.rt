@@ -18,7 +18,7 @@ enum Slots {
     Unknown,
 }
 
-/// Says on a line of its own that data of a parameter haven't its length, if that is so.
+/// Says that data of a parameter haven't its length, if that is so.
 pub(crate) fn put_wrong_length(
     text: &mut String,
     pid: u16,
@@ -31,7 +31,7 @@ pub(crate) fn put_wrong_length(
     put_counts(text, pid, slots_in(form), data.len())
 }
 
-/// Says on a line of its own how many slots data of a parameter have that aren't those of a record, and how many that has.
+/// Says how many slots data of a parameter have that aren't those of a record, and how many that has.
 pub(crate) fn put_other_length(
     text: &mut String,
     pid: u16,
@@ -82,9 +82,9 @@ fn fits(form: Form, data: &[u8]) -> bool {
 /// How many slots data have, and how many those of the parameter have.
 fn put_counts(text: &mut String, pid: u16, slots: Slots, count: usize) -> Result<(), AllocError> {
     match count {
-        0 => text.push_str("\n  no data slots")?,
-        1 => text.push_str("\n  1 data slot")?,
-        _ => write!(text, "\n  {count} data slots")?,
+        0 => text.push_str("no data slots")?,
+        1 => text.push_str("1 data slot")?,
+        _ => write!(text, "{count} data slots")?,
     }
     write!(text, " where {pid:04X} has ")?;
     match slots {

@@ -17,12 +17,15 @@ pub(crate) fn put_entries(
     known: &Facts<'_>,
 ) -> Result<(), AllocError> {
     if data.is_empty() {
-        text.push_str("\n  ")?;
         return put_count_of(text, list, data);
     }
+    let mut is_first = true;
     for entry in data.chunks(slots_of(list)) {
-        text.push_str("\n  ")?;
+        if !is_first {
+            text.push_str("\n  ")?;
+        }
         put_record(text, "", record_of(list), entry, known)?;
+        is_first = false;
     }
     Ok(())
 }
