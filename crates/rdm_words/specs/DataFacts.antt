@@ -97,7 +97,7 @@ value_facts kind d = as_data d
 
 -- what a GET asks with
 abbrev pub asked_facts : Kind → List ℕ → List (List ℕ)
-asked_facts StatusIdDescription d = []
+asked_facts StatusIdDescription d = exactly 2 d []
 asked_facts DmxPersonalityDescription d = byte_facts d
 asked_facts SlotDescription d = word_facts d
 asked_facts SensorDefinition d = sensor d
@@ -146,11 +146,11 @@ kind_facts class kind d =
     if class == 0x30 then set_facts kind d else
     if class == 0x31 then done_facts kind d else as_data d
 
--- the parameters of discovery, of which only those with data that are shown as digits have their facts here. Section 7.
+-- The parameters of discovery. Section 7. Those of data of the right length aren't here.
 abbrev pub discovery_facts : ℕ → ℕ → List ℕ → List (List ℕ)
 discovery_facts class pid d =
-    if class == 0x10 then (if pid == 0x0001 then [] else as_data d) else
-    if class == 0x11 then (if pid == 0x0002 then [] else if pid == 0x0003 then [] else as_data d) else
+    if class == 0x10 then (if pid == 0x0001 then exactly 12 d [] else as_data d) else
+    if class == 0x11 then (if pid == 0x0002 then at_least 2 d [] else if pid == 0x0003 then at_least 2 d [] else as_data d) else
     as_data d
 
 abbrev pub facts_of_kind : ℕ → ℕ → Option Kind → List ℕ → List (List ℕ)
@@ -158,7 +158,7 @@ facts_of_kind class pid None d = discovery_facts class pid d
 facts_of_kind class pid (Some kind) d = kind_facts class kind d
 
 -- data of a parameter in frames of this class
-unfoldable pub data_facts : ℕ → ℕ → List ℕ → List (List ℕ)
+abbrev pub data_facts : ℕ → ℕ → List ℕ → List (List ℕ)
 data_facts class pid d = facts_of_kind class pid (kind_with pid) d
 
 -- The data of a frame, but for those of an ACK_TIMER or a NACK, which stand in the header.
