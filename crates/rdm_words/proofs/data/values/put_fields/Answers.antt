@@ -1,15 +1,12 @@
-use Rattle.std.proofs.Common.{drop, length, string_bytes, subst, arith}
+use Rattle.std.proofs.Common.{drop, length, string_bytes, arith}
 use Rattle.std.proofs.lemmas.List.{length-drop}
-use Rattle.rdm_words.specs.declared.data.form.Field.{Field}
-use Rattle.rdm_words.specs.LaidOut.{field_facts, SaysField}
 use Rattle.rdm_words.proofs.LaidOut.{said_more, said_whole}
 use Rattle.rdm_words.proofs.data.values.put_fields.Goals as goal
 
 pub loop-field-preserved : goal.loop-field-preserved
 loop-field-preserved c =
-    let d = c.args.data.now in
-    said_more d c.args.fields.now (string_bytes c.args.text.now) c.loop-field.field-index c.field-item.result c.loop-field-test.true _ _
-    (subst (λ (f : Field). SaysField f.0.now (field_facts d f) _ _) c.field-item.is c.in_ok-put_field.ensures) c.loop-field.invariant
+    said_more c.args.data.now c.args.fields.now (string_bytes c.args.text.now) c.loop-field.field-index _ c.loop-field-test.true _ _
+    c.in_ok-put_field.ensures c.loop-field.invariant
 
 pub returns : goal.returns
 returns c =
