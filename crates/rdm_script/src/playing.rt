@@ -75,7 +75,7 @@ impl From<ScriptError> for Unplayed {
     }
 }
 
-/// Plays the script that a text is on any fixture, and gives the lines of its trace, as `run_script_on` writes them.
+/// Plays the script that a text is on any fixture, and gives the lines of its trace.
 ///
 /// If it stops, it says at which line: that of the step at which `rdm_crew::run_steps` stops.
 pub fn play_script<T, P, Q, N>(
