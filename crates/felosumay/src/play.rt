@@ -2,6 +2,7 @@
 
 ghost use Rattle.std.specs.Prelude.{◌≡◌, ℕ, List, IfOk, IfErr, OnOk};
 ghost use Rattle.std.specs.Io.KnownBytes.{Appends};
+ghost use Rattle.rdm_fixture.specs.Describes.{Describes};
 ghost use Rattle.rdm_script.specs.Playing.{IsPlayOf, NamesStopLine};
 ghost use Rattle.rdm_script.specs.Rules.{rules_of};
 ghost use Rattle.rdm_script.specs.declared.dialect.Spelling.TheVariants.{Friendly};
@@ -84,8 +85,6 @@ struct Script<'s, 'a> {
 struct Setting<'a> {
     /// The file of the fixture, if one is asked for. Otherwise it is the fixture of the demonstration.
     file: Option<FixtureFile<'a>>,
-    /// The fixture of which words and charts tell.
-    fixture: Fixture,
 }
 
 impl<'a> Setting<'a> {
@@ -94,14 +93,7 @@ impl<'a> Setting<'a> {
         ensures file { IfOk result (λ setting. IsAskedFor (H.reads rt) asked.now setting.file) }
     {
         let file = FixtureFile::asked_for(rt, asked)?;
-        let fixture = match &file {
-            Some(file) => file.fixture(rt)?,
-            None => demonstration(),
-        };
-        if fixture.uid == CONTROLLER {
-            return Err(Fault::ControllersUid(CONTROLLER));
-        }
-        Ok(Setting { file, fixture })
+        Ok(Setting { file })
     }
 
     /// Plays a script, and prints what is asked for.
@@ -113,25 +105,24 @@ impl<'a> Setting<'a> {
     ) -> Result<(), Fault<'a>> {
         if asked.contains_id(usage::CHART) || asked.get_flag(usage::WORDS) {
             let lines = self.lines(rt, script)?;
-            return show(rt, asked, lines.as_slice(), &self.fixture);
+            return show(rt, asked, lines.as_slice(), &self.fixture(rt)?);
         }
         let mut writer = io::writer(&rt);
         self.write_trace(rt, script, &mut writer)
     }
 
-    /// What the words of a script may be.
-    fn dialect(&self) -> Dialect<'_> {
-        Dialect {
-            device: self.fixture.uid,
-            spelling: Spelling::Friendly,
-            own: self.fixture.profile.particulars.own(),
+    /// The fixture once more, for what is told of it: a run takes the one that it is played on.
+    fn fixture<H: Host>(&self, rt: H) -> Result<Fixture, Fault<'a>> {
+        match &self.file {
+            Some(file) => file.fixture(rt),
+            None => Ok(demonstration()),
         }
     }
 
-    /// How many sub-devices a script can ask for.
-    fn subs(&self) -> u16 {
+    /// How many sub-devices a script can ask for, of this fixture.
+    fn subs(&self, fixture: &Fixture) -> u16 {
         match &self.file {
-            Some(_) => self.fixture.profile.subs,
+            Some(_) => fixture.profile.subs,
             // A script can give the fixture of the demonstration as many.
             None => MOST_SUB_DEVICES,
         }
@@ -160,27 +151,37 @@ impl<'a> Setting<'a> {
         ensures ok { IfOk result (λ lines. ArePlayed self.now.file script.entry.text.now lines.items) }
     {
         let played = match &self.file {
-            Some(file) => play_on(rt, file.fixture(rt)?, script.text),
+            Some(file) => play_on(rt, playable(rt, file)?, script.text),
             None => play_demonstration(rt, rt.alloc(), Spelling::Friendly, script.text),
         };
         match played {
             Ok(lines) => Ok(lines),
-            Err(why) => Err(self.told(script, why)),
+            Err(why) => Err(self.told(rt, script, why)),
         }
     }
 
     /// What is told of a script that isn't played to its end.
-    fn told(&self, script: Script<'_, 'a>, why: Unplayed) -> Fault<'a> {
+    fn told<H: Host>(&self, rt: H, script: Script<'_, 'a>, why: Unplayed) -> Fault<'a> {
+        match self.fixture(rt) {
+            Ok(fixture) => self.told_on(&fixture, script, why),
+            Err(fault) => fault,
+        }
+    }
+
+    /// What is told of a script that isn't played to its end on this fixture.
+    fn told_on(&self, fixture: &Fixture, script: Script<'_, 'a>, why: Unplayed) -> Fault<'a> {
         let Script { name, text } = script;
         match why {
             Unplayed::OutOfMemory => Fault::Memory,
             Unplayed::Faulty(error) => self.refused(Fault::script(
                 name,
-                &self.dialect(),
+                &dialect_of(fixture),
                 text,
                 error,
             )),
-            Unplayed::Stopped(error, line) => Fault::stopped(name, line, self.subs(), error),
+            Unplayed::Stopped(error, line) => {
+                Fault::stopped(name, line, self.subs(fixture), error)
+            }
         }
     }
 
@@ -199,6 +200,26 @@ impl<'a> Setting<'a> {
         } else {
             Fault::Script(name, refusal)
         }
+    }
+}
+
+/// The fixture that a file describes, unless it has the UID of the controller.
+fn playable<'a, H: Host>(rt: H, file: &FixtureFile<'a>) -> Result<Fixture, Fault<'a>>
+    ensures described { IfOk result (Describes file.now.bytes.items) }
+{
+    let fixture = file.fixture(rt)?;
+    if fixture.uid == CONTROLLER {
+        return Err(Fault::ControllersUid(CONTROLLER));
+    }
+    Ok(fixture)
+}
+
+/// What the words of a script for a fixture may be.
+fn dialect_of(fixture: &Fixture) -> Dialect<'_> {
+    Dialect {
+        device: fixture.uid,
+        spelling: Spelling::Friendly,
+        own: fixture.profile.particulars.own(),
     }
 }
 
