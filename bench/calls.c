@@ -26,9 +26,9 @@ static size_t step(void) {
 }
 
 static size_t hear(void) {
-    uint8_t heard = 0;
+    felosumay_heard heard = {0, 0, FELOSUMAY_IGNORED};
     felosumay_collector_hear(&console, reply, stepped.count, &heard);
-    return heard;
+    return heard.kind;
 }
 
 static size_t make(int row) {

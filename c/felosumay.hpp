@@ -180,29 +180,11 @@ public:
     [[nodiscard]] result poll(frame &request) noexcept {
         return felosumay_collector_poll(get(), request.room.data(), &request.count);
     }
-    [[nodiscard]] result hear(bytes heard, std::uint8_t &as) noexcept {
+    [[nodiscard]] result hear(bytes heard, felosumay_heard &as) noexcept {
         return felosumay_collector_hear(get(), heard.data(), heard.size(), &as);
     }
     [[nodiscard]] result over() noexcept { return felosumay_collector_over(get()); }
     [[nodiscard]] result next(felosumay_message &message) noexcept { return felosumay_collector_next(get(), &message); }
-};
-
-class device_collector : public owner<felosumay_device_collector, felosumay_device_collector_free> {
-public:
-    [[nodiscard]] result make(uid own, uid target, std::uint8_t wants) noexcept {
-        return felosumay_device_collector_new(get(), own.maker, own.device, target.maker, target.device, wants);
-    }
-    [[nodiscard]] result ask(const felosumay_command &command, bytes load, frame &request) noexcept {
-        return felosumay_device_collector_ask(get(), &command, load.data(), load.size(), request.room.data(), &request.count);
-    }
-    [[nodiscard]] result poll(frame &request) noexcept {
-        return felosumay_device_collector_poll(get(), request.room.data(), &request.count);
-    }
-    [[nodiscard]] result hear(bytes heard, felosumay_heard &as) noexcept {
-        return felosumay_device_collector_hear(get(), heard.data(), heard.size(), &as);
-    }
-    [[nodiscard]] result over() noexcept { return felosumay_device_collector_over(get()); }
-    [[nodiscard]] result next(felosumay_collected &collected) noexcept { return felosumay_device_collector_next(get(), &collected); }
 };
 
 class search : public owner<felosumay_search, felosumay_search_free> {

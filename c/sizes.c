@@ -10,7 +10,6 @@
 
 SIZE_IS(felosumay_responder, 8);
 SIZE_IS(felosumay_collector, 8);
-SIZE_IS(felosumay_device_collector, 8);
 SIZE_IS(felosumay_search, 8);
 SIZE_IS(felosumay_text, 33);
 SIZE_IS(felosumay_personality, 36);
@@ -30,9 +29,8 @@ SIZE_IS(felosumay_job, 16);
 SIZE_IS(felosumay_stepped, 32);
 SIZE_IS(felosumay_outcome, 10);
 SIZE_IS(felosumay_command, 12);
-SIZE_IS(felosumay_message, 248);
+SIZE_IS(felosumay_message, 256);
 SIZE_IS(felosumay_heard, 6);
-SIZE_IS(felosumay_collected, 256);
 SIZE_IS(felosumay_found, 16);
 SIZE_IS(felosumay_reply, 256);
 SIZE_IS(felosumay_name, 16);

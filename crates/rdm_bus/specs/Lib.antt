@@ -7,3 +7,4 @@ pub mod Messages
 pub mod Numbering
 pub mod Hearing
 pub mod Systems
+pub mod DeviceCollectors

@@ -3,6 +3,7 @@
 ghost use Rattle.std.specs.Prelude.{◌≡◌, ◌↔◌, IsTrue};
 ghost use Rattle.rdm_bus.specs.Devices.{dequeues_again, forgets_empty_status, BreaksPrefixLaw, RightDeviceIsPolled};
 ghost use Rattle.rdm_bus.specs.BusLaws.{BusLawsHold};
+ghost use Rattle.rdm_bus.specs.DeviceCollectors.{DeviceCollectorLawsHold};
 ghost use Rattle.rdm_bus.specs.Headline.{HeadlineHolds, TwiceIsRuledOut, LaterFirstIsRuledOut, AnsweringTheUnheardIsRuledOut, AfterTheCloseIsRuledOut, SkippingIsRuledOut, RecordingNothingIsRuledOut, RecordingTwiceIsRuledOut, DroppingAnEqualOneIsRuledOut, BookingNoPollIsRuledOut, AnotherMessageIsRuledOut};
 ghost use Rattle.rdm_bus.specs.Hearing.{CommandSendingHolds, HearingHolds};
 ghost use Rattle.rdm_bus.specs.Messages.{KeepingHolds};
@@ -15,6 +16,16 @@ use rdm_params::two_commands_fetch;
 /// changes at its menu there are, whichever requests and replies are lost or altered, and however many in a row.
 pub fn bus_recording_laws_hold()
     ensures { BusLawsHold }
+{
+    two_commands_fetch();
+}
+
+/// A `DeviceCollector` of rdm_collector in the place of the bus's controller sends what the controller sends, and both recording laws
+/// hold of what it records: what it recorded, with equal neighbours joined, is a prefix of what the device dispensed, joined likewise, at
+/// most one message shorter; and none that was given is missing but the last at most. Nothing is missing if the last poll is answered. So
+/// it is from every history of the device, whichever requests and replies are lost or altered (E1.20 section 10.3.1).
+pub fn device_collector_laws_hold()
+    ensures { DeviceCollectorLawsHold }
 {
     two_commands_fetch();
 }

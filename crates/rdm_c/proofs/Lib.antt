@@ -1,5 +1,4 @@
 pub mod Emptied
 pub mod Frees
 pub mod Many
-pub mod Polls
 pub mod Values

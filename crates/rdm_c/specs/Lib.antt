@@ -8,8 +8,6 @@ pub mod Outcomes
 pub mod Texts
 pub mod Parameters
 pub mod Profiles
-pub mod CollectorStates
-pub mod Collecteds
 pub mod Endpoints
 pub mod Memory
 pub mod Messages

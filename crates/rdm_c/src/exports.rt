@@ -2,7 +2,6 @@
 
 pub(crate) mod change;
 pub(crate) mod collector;
-pub(crate) mod device_collector;
 pub(crate) mod firmware;
 pub(crate) mod frame;
 pub(crate) mod memory;

@@ -9,7 +9,6 @@
 //! The calls of C stand in `exports/`; what each does to what the handle holds, in the file of the same name in `endpoint/`.
 #![tactic(auto)]
 
-mod collected;
 mod endpoint;
 mod exports;
 mod found;
@@ -25,12 +24,10 @@ mod outcome;
 mod profile;
 mod raw_box;
 mod reply;
-mod running_collector;
 mod running_search;
 mod sizes;
 mod status;
 
-pub use collected::{CollectedNumbers, HeardNumbers};
 pub use exports::change::{
     felosumay_responder_change_label_nonnull, felosumay_responder_change_personality,
     felosumay_responder_change_start,
@@ -39,12 +36,6 @@ pub use exports::collector::{
     felosumay_collector_ask_nonnull, felosumay_collector_free, felosumay_collector_hear_nonnull,
     felosumay_collector_new, felosumay_collector_next, felosumay_collector_over,
     felosumay_collector_poll,
-};
-pub use exports::device_collector::{
-    felosumay_device_collector_ask_nonnull, felosumay_device_collector_free,
-    felosumay_device_collector_hear_nonnull, felosumay_device_collector_new,
-    felosumay_device_collector_next, felosumay_device_collector_over,
-    felosumay_device_collector_poll,
 };
 pub use exports::firmware::{felosumay_responder_note, felosumay_responder_place_nonnull};
 pub use exports::frame::felosumay_frame_fault_nonnull;
@@ -73,7 +64,7 @@ pub use exports::search::{
 pub use found::FoundNumbers;
 pub use handle::Handle;
 pub use job::{JobNumbers, SteppedNumbers};
-pub use message::{CommandNumbers, MessageNumbers};
+pub use message::{CommandNumbers, HeardNumbers, MessageNumbers};
 pub use names::NameNumbers;
 pub use outcome::OutcomeNumbers;
 pub use profile::parameters::ParameterNumbers;
