@@ -3,7 +3,8 @@
  *
  * It is for compilers that have no object of the library: C99, for pointers of 32 or 64 bits, and the lowest byte of a number first in
  * memory. What is undefined nowhere happens: a number has no sign, and is read from memory by one of the functions below.
- * FELOSUMAY_PLAIN leaves out what only gcc, clang and those like them know. */
+ * FELOSUMAY_PLAIN leaves out what only gcc, clang and those like them know; FELOSUMAY_CHECKED stops where a number isn't the address that
+ * it is taken for. */
 #include "felosumay.h"
 #include <string.h>
 
@@ -63,6 +64,10 @@ PUT(64, 8)
 
 /* A pointer in memory is a number of 64 bits, of which its address may take the lower half. */
 HELPER uint8_t *pointer(uint64_t number) {
+#if defined FELOSUMAY_CHECKED
+    if (number != (uintptr_t)number)
+        STOP();
+#endif
     return (uint8_t *)(uintptr_t)number;
 }
 HELPER uint64_t address(const uint8_t *at) {
