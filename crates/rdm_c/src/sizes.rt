@@ -1,4 +1,4 @@
-//! How many bytes the structs have that C hands in and out. `c/felosumay.h` asserts the same of its own.
+//! How many bytes the structs have that C hands in and out. `c/sizes.c` says the same of those in the header.
 
 use crate::collected::{CollectedNumbers, HeardNumbers};
 use crate::found::FoundNumbers;
