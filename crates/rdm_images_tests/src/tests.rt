@@ -8,7 +8,7 @@ mod firmware;
 
 use crate::cells::{AREA, Cells};
 use rdm_images::{Images, ImagesError};
-use std::process::Abort;
+use std::test::Fail;
 
 /// What the values are of.
 const KEY: u32 = 0x0102_0304;
@@ -57,24 +57,13 @@ fn after_save(cells: Cells, key: u32, payload: &[u8]) -> (Cells, Result<(), Imag
 }
 
 /// Whether these are the values that are loaded, or none are.
-fn loads(cells: Cells, key: u32, wanted: Option<&[u8]>) -> bool {
+fn loads(cells: Cells, key: u32, wanted: Option<&[u8]>) -> Result<bool, Fail> {
     let mut images = Images::new(cells, key);
     let mut buffer = [0; AREA];
-    match (images.load(&mut buffer), wanted) {
-        (Ok(None), None) => true,
-        (Ok(Some(payload)), Some(wanted)) => *payload == *wanted,
-        _ => false,
-    }
-}
-
-/// These are the values that are loaded, or none are.
-fn has(rt: &impl Abort, cells: Cells, key: u32, wanted: Option<&[u8]>, what: &str) {
-    assert!(rt; loads(cells, key, wanted), "{what}");
-}
-
-/// Saves values, which succeeds.
-fn saved(rt: &impl Abort, cells: Cells, key: u32, payload: &[u8]) -> Cells {
-    let (cells, result) = after_save(cells, key, payload);
-    assert_eq!(rt; result, Ok(()));
-    cells
+    let found = images.load(&mut buffer)?;
+    Ok(match (found, wanted) {
+        (None, None) => true,
+        (Some(payload), Some(wanted)) => *payload == *wanted,
+        (None, Some(_)) | (Some(_), None) => false,
+    })
 }

@@ -1,12 +1,12 @@
 //! Which of two images is loaded, and where the next one goes.
 
-use super::{IMAGE, KEY, PAYLOAD, after_save, erased, has, put_front, saved, with_fronts};
+use super::{IMAGE, KEY, PAYLOAD, after_save, erased, loads, put_front, with_fronts};
 use crate::cells::{AREA, Cells};
 use rdm_images::{Images, ImagesError, Side, encode_image};
-use std::process::Abort;
+use std::test::Fail;
 
 /// The counters of the images in the two areas, which is loaded, and the counter of the one that is saved next.
-const COUNTERS: &[(u16, u16, Side, u16)] = &[
+const COUNTERS: [(u16, u16, Side, u16); 8] = [
     (0, 1, Side::Second, 2),
     (1, 0, Side::First, 2),
     (65534, 65535, Side::Second, 0),
@@ -31,61 +31,48 @@ fn image(counter: u16, payload: &[u8; 2]) -> [u8; 14] {
 }
 
 #[test]
-fn the_next_counter_is_newer(rt: HostRuntime) {
+fn the_next_counter_is_newer(rt: HostRuntime) -> Result<(), Fail> {
     for (first, second, newest, next) in COUNTERS {
-        let images = (image(*first, &FIRST), image(*second, &SECOND));
+        let cells = with_fronts(&image(first, &FIRST), &image(second, &SECOND));
+        let (old, mut wanted) = match newest {
+            Side::First => (FIRST, with_fronts(&image(first, &FIRST), &[])),
+            Side::Second => (SECOND, with_fronts(&[], &image(second, &SECOND))),
+        };
+        assert!(rt; loads(cells, KEY, Some(&old))?, "{first}, {second}");
         match newest {
-            Side::First => stays_first(&rt, images, *next),
-            Side::Second => stays_second(&rt, images, *next),
+            Side::First => put_front(&mut wanted.second, &image(next, &NEW)),
+            Side::Second => put_front(&mut wanted.first, &image(next, &NEW)),
         }
+        let (saved, result) = after_save(cells, KEY, &NEW);
+        assert_eq!(rt; result, Ok(()), "{first}, {second}");
+        assert_eq!(rt;
+            (saved.first, saved.second),
+            (wanted.first, wanted.second),
+            "{first}, {second}"
+        );
+        assert!(rt; loads(saved, KEY, Some(&NEW))?, "{first}, {second}");
     }
+    Ok(())
 }
 
-/// The first image is loaded, and the next one goes where the second is.
-fn stays_first(rt: &impl Abort, (first, second): ([u8; 14], [u8; 14]), next: u16) {
-    let cells = with_fronts(&first, &second);
-    has(rt, cells, KEY, Some(&FIRST), "the first image");
-    goes_on(rt, cells, &with_fronts(&first, &image(next, &NEW)), next);
-}
-
-/// The second image is loaded, and the next one goes where the first is.
-fn stays_second(rt: &impl Abort, (first, second): ([u8; 14], [u8; 14]), next: u16) {
-    let cells = with_fronts(&first, &second);
-    has(rt, cells, KEY, Some(&SECOND), "the second image");
-    goes_on(rt, cells, &with_fronts(&image(next, &NEW), &second), next);
-}
-
-/// A save makes one memory of another, and is loaded then.
-fn goes_on(rt: &impl Abort, cells: Cells, wanted: &Cells, next: u16) {
-    let after = saved(rt, cells, KEY, &NEW);
-    assert_eq!(rt;
-        (after.first, after.second),
-        (wanted.first, wanted.second),
-        "{next}"
-    );
-    has(rt, after, KEY, Some(&NEW), "the new image");
-}
-
-/// The image of `PAYLOAD` with the counter 0: its check is 7 more.
-fn first_image() -> [u8; 40] {
-    let mut bytes = IMAGE;
-    bytes[3] = 0x43;
-    bytes[9] = 0;
-    bytes
-}
-
-/// The first image in two areas that are erased.
+/// The first image in two areas that are erased: its counter is 0, so its check is 7 more.
 #[test]
-fn the_first_save_is_into_the_first_area(rt: HostRuntime) {
-    has(&rt, erased(), KEY, None, "nothing");
-    let cells = saved(&rt, erased(), KEY, &PAYLOAD);
-    let wanted = with_fronts(&first_image(), &[]);
-    assert_eq!(rt; (cells.first, cells.second), (wanted.first, wanted.second));
-    has(&rt, cells, KEY, Some(&PAYLOAD), "the first image");
+fn the_first_save_is_into_the_first_area(rt: HostRuntime) -> Result<(), Fail> {
+    assert!(rt; loads(erased(), KEY, None)?);
+    let (cells, result) = after_save(erased(), KEY, &PAYLOAD);
+    assert_eq!(rt; result, Ok(()));
+    let mut wanted = [0xFF; AREA];
+    put_front(&mut wanted, &IMAGE);
+    wanted[3] = 0x43;
+    wanted[9] = 0;
+    assert_eq!(rt; cells.first, wanted);
+    assert_eq!(rt; cells.second, [0xFF; AREA]);
+    assert!(rt; loads(cells, KEY, Some(&PAYLOAD))?);
+    Ok(())
 }
 
 /// How many bytes the payload and the buffer have, and what comes of a save. An area has 64 bytes.
-const SIZES: &[(usize, usize, Result<(), ImagesError>)] = &[
+const SIZES: [(usize, usize, Result<(), ImagesError>); 9] = [
     (0, 64, Ok(())),
     (52, 64, Ok(())),
     (53, 64, Err(ImagesError::TooLong)),
@@ -98,48 +85,47 @@ const SIZES: &[(usize, usize, Result<(), ImagesError>)] = &[
 ];
 
 #[test]
-fn what_is_too_long_changes_nothing(rt: HostRuntime) {
-    let old = saved(&rt, erased(), KEY, &PAYLOAD);
+fn what_is_too_long_changes_nothing(rt: HostRuntime) -> Result<(), Fail> {
     let payload = [9; 100];
     for (length, size, wanted) in SIZES {
-        let values = payload.get(..*length).expect(&rt, "values");
+        let (old, _) = after_save(erased(), KEY, &PAYLOAD);
+        let values = payload.get(..length).ok_or("values")?;
         let mut buffer = [0; 100];
-        let buffer = buffer.get_mut(..*size).expect(&rt, "a buffer");
+        let buffer = buffer.get_mut(..size).ok_or("a buffer")?;
         let mut images = Images::new(old, KEY);
-        assert_eq!(rt; images.save(values, buffer), *wanted, "{length} in {size}");
-        is_new_or_old(
-            &rt,
-            images.into_memory(),
-            &old,
-            wanted.is_ok().then_some(values),
-        );
+        assert_eq!(rt; images.save(values, buffer), wanted, "{length} in {size}");
+        let cells = images.into_memory();
+        if wanted.is_ok() {
+            assert!(rt; loads(cells, KEY, Some(values))?, "{length} in {size}");
+        } else {
+            assert_eq!(rt;
+                (cells.first, cells.second),
+                (old.first, old.second),
+                "{length} in {size}"
+            );
+        }
     }
-}
-
-/// A memory has these values, or is as it was.
-fn is_new_or_old(rt: &impl Abort, cells: Cells, old: &Cells, values: Option<&[u8]>) {
-    match values {
-        Some(values) => has(rt, cells, KEY, Some(values), "the new values"),
-        None => assert_eq!(rt; (cells.first, cells.second), (old.first, old.second)),
-    }
+    Ok(())
 }
 
 /// How often values of a key were saved, before those of another are saved once; and whether the first are still there then. Each
 /// key counts the images of the other as none, so it begins in the first area.
-const OTHERS: &[(u32, bool)] = &[(0, false), (1, false), (2, true), (3, true)];
+const OTHERS: [(u32, bool); 4] = [(0, false), (1, false), (2, true), (3, true)];
 
 #[test]
-fn values_of_another_key_are_none(rt: HostRuntime) {
+fn values_of_another_key_are_none(rt: HostRuntime) -> Result<(), Fail> {
     for (times, kept) in OTHERS {
         let mut cells = erased();
-        for _ in 0..*times {
+        for _ in 0..times {
             cells = after_save(cells, KEY, &FIRST).0;
         }
-        has(&rt, cells, KEY + 1, None, "nothing of another key");
-        let cells = saved(&rt, cells, KEY + 1, &SECOND);
-        has(&rt, cells, KEY + 1, Some(&SECOND), "the other values");
-        has(&rt, cells, KEY, kept.then_some(&FIRST), "the first values");
+        assert!(rt; loads(cells, KEY + 1, None)?, "{times}");
+        let (cells, result) = after_save(cells, KEY + 1, &SECOND);
+        assert_eq!(rt; result, Ok(()), "{times}");
+        assert!(rt; loads(cells, KEY + 1, Some(&SECOND))?, "{times}");
+        assert!(rt; loads(cells, KEY, kept.then_some(&FIRST))?, "{times}");
     }
+    Ok(())
 }
 
 /// A memory in whose areas anything stands.
@@ -153,17 +139,14 @@ fn rubbish() -> Cells {
 }
 
 #[test]
-fn nothing_is_loaded_from_a_formatted_memory(rt: HostRuntime) {
-    is_formatted(&rt, rubbish());
-    is_formatted(&rt, erased());
-    is_formatted(&rt, saved(&rt, erased(), KEY, &PAYLOAD));
-}
-
-/// A memory is formatted, and nothing is loaded from it.
-fn is_formatted(rt: &impl Abort, cells: Cells) {
-    let mut images = Images::new(cells, KEY);
-    assert_eq!(rt; images.format(), Ok(()));
-    let (cells, wanted) = (images.into_memory(), erased());
-    assert_eq!(rt; (cells.first, cells.second), (wanted.first, wanted.second));
-    has(rt, cells, KEY, None, "nothing");
+fn nothing_is_loaded_from_a_formatted_memory(rt: HostRuntime) -> Result<(), Fail> {
+    let (saved, _) = after_save(erased(), KEY, &PAYLOAD);
+    for cells in [rubbish(), erased(), saved] {
+        let mut images = Images::new(cells, KEY);
+        assert_eq!(rt; images.format(), Ok(()));
+        let cells = images.into_memory();
+        assert_eq!(rt; (cells.first, cells.second), ([0xFF; AREA], [0xFF; AREA]));
+        assert!(rt; loads(cells, KEY, None)?);
+    }
+    Ok(())
 }

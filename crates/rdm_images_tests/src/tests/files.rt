@@ -9,7 +9,7 @@ use std::{fs, io};
 const NAME: &str = "rdm_images_tests_values";
 
 /// What is saved, with a restart before each, and where the image of it begins in the file.
-const SAVES: &[(&[u8], usize)] = &[
+const SAVES: [(&[u8], usize); 4] = [
     (b"first", 0),
     (b"second", AREA_BYTES),
     (b"", 0),
@@ -22,34 +22,19 @@ fn restarted(rt: &HostRuntime) -> io::Result<Images<FileMemory<File>>> {
     Ok(Images::new(DiskMemory::new(FileDisk::open(file)?), KEY))
 }
 
-/// Whether these are the values that are loaded after a restart. Then others are saved.
-fn loads_and_saves(rt: &HostRuntime, last: Option<&[u8]>, values: &[u8]) -> Result<bool, Fail> {
-    let mut buffer = [0; AREA_BYTES];
-    let mut images = restarted(rt)?;
-    let is_last = images.load(&mut buffer)? == last;
-    images.save(values, &mut buffer)?;
-    Ok(is_last)
-}
-
-/// Whether values stand in the file, in the image that begins at this place.
-fn stands_at(rt: &HostRuntime, values: &[u8], place: usize) -> Result<bool, Fail> {
-    let file = fs::read(rt, NAME)?;
-    let found = payload_at(&file, place, values.len());
-    Ok(file.len() == 2 * AREA_BYTES && found == Some(values))
-}
-
-/// So many bytes behind the 12 that stand in front of the values of an image.
-fn payload_at(file: &[u8], place: usize, count: usize) -> Option<&[u8]> {
-    file.get(place..)?.get(12..)?.get(..count)
-}
-
 #[test]
 fn a_file_keeps_values_over_restarts(rt: HostRuntime) -> Result<(), Fail> {
     FileDisk::create(File::create(&rt, NAME)?)?;
     let mut last: Option<&[u8]> = None;
     for (values, place) in SAVES {
-        assert!(rt; loads_and_saves(&rt, last, values)?, "before {values:?}");
-        assert!(rt; stands_at(&rt, values, *place)?, "{values:?}");
+        let mut buffer = [0; AREA_BYTES];
+        let mut images = restarted(&rt)?;
+        assert_eq!(rt; images.load(&mut buffer)?, last);
+        images.save(values, &mut buffer)?;
+        let file = fs::read(&rt, NAME)?;
+        assert_eq!(rt; file.len(), 2 * AREA_BYTES);
+        let begin = place + 12;
+        assert_eq!(rt; file.get(begin..begin + values.len()), Some(values));
         last = Some(values);
     }
     fs::remove_file(&rt, NAME)?;

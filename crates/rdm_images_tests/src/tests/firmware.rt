@@ -29,7 +29,7 @@ fn live(memory: Cells) -> Result<(u16, Cells, Result<(), ImagesError>), ImagesEr
 
 /// Power-ons, one after another: how many bytes can be erased or written until power fails, the address at first, and what comes of the
 /// save. An area is erased and 14 bytes are written: 78, of which the last is there though power fails in it.
-const LIVES: &[(usize, u16, Result<(), ImagesError>)] = &[
+const LIVES: [(usize, u16, Result<(), ImagesError>); 8] = [
     (usize::MAX, 1, Ok(())),
     (usize::MAX, 2, Ok(())),
     (0, 3, NOT_SAVED),
@@ -47,9 +47,9 @@ fn a_firmware_keeps_its_values(rt: HostRuntime) -> Result<(), Fail> {
     let mut cells = erased();
     cells.first = [0x5A; AREA];
     for (left, address, wanted) in LIVES {
-        cells.left = Some(*left);
+        cells.left = Some(left);
         let (found, after, result) = live(cells)?;
-        assert_eq!(rt; (found, result), (*address, *wanted), "{left}");
+        assert_eq!(rt; (found, result), (address, wanted), "{left}");
         cells = after;
     }
     Ok(())
