@@ -26,9 +26,9 @@ static uint64_t step(void) {
 }
 
 static uint64_t hear(void) {
-    uint8_t heard = 0;
+    felosumay_heard heard = {0, 0, FELOSUMAY_IGNORED};
     felosumay_collector_hear(&console, reply, stepped.count, &heard);
-    return heard;
+    return heard.kind;
 }
 
 static uint64_t make(int row) {

@@ -1,9 +1,8 @@
 /* Searches of a line that alters frames and loses them: for each rate of altered and of lost frames 100 lines of 20 fixtures are
  * searched. It prints how many of these searches miss a fixture, and how many do if an altered answer to a mute is taken for none, as a
  * program would that passes on valid frames alone. Its status is 1 if a search misses one that it heard every byte of. */
-#include "felosumay.h"
+#include "searched.h"
 #include <stdio.h>
-#include <string.h>
 
 enum { MAKER = 0x7FF0, CONSOLE = 0xC0, FIXTURES = 20, SEARCHES = 100, REPEATS = 12, LIMIT = 4 * (74 * FIXTURES + 2) };
 
@@ -13,12 +12,12 @@ typedef struct {
 } rates;
 
 /* A line, and whether a mute's answer that is altered is taken for none. */
-typedef struct {
+struct line {
     felosumay_responder fixtures[FIXTURES];
     uint32_t devices[FIXTURES];
     rates rates;
     int is_deaf;
-} line;
+};
 
 static uint32_t state;
 
@@ -43,50 +42,19 @@ static uint64_t carry(const line *line, uint8_t *bytes, uint64_t count, int *is_
     return count;
 }
 
-/* The bytes of whoever answers a request that arrives: as the OR of their bytes if more than one does. */
-static uint64_t answers(line *line, const uint8_t *request, uint64_t count, uint8_t heard[FELOSUMAY_FRAME_BYTES]) {
-    uint8_t reply[FELOSUMAY_FRAME_BYTES];
-    felosumay_stepped stepped;
-    uint64_t length = 0;
-    memset(heard, 0, FELOSUMAY_FRAME_BYTES);
-    for (int i = 0; i < FIXTURES; i++) {
-        felosumay_responder_step(&line->fixtures[i], request, count, reply, &stepped);
-        if (!stepped.replied)
-            continue;
-        for (size_t k = 0; k < stepped.count; k++)
-            heard[k] |= reply[k];
-        length = stepped.count > length ? stepped.count : length;
-    }
-    return length;
-}
-
 /* Sends a request, and again while nothing is heard. */
 static uint64_t transact(line *line, const uint8_t *request, uint64_t count, uint8_t heard[FELOSUMAY_FRAME_BYTES]) {
     uint8_t sent[FELOSUMAY_FRAME_BYTES];
-    int is_mute = request[21] == 0 && request[22] == 2, is_altered = 0;
+    int is_mute = request[21] == 0 && request[22] == 2, is_altered = 0, answers;
     uint64_t length = 0;
     for (int i = 0; i <= REPEATS && length == 0; i++) {
         memcpy(sent, request, count);
-        length = answers(line, sent, carry(line, sent, count, &is_altered), heard);
+        length = answer_of(line->fixtures, FIXTURES, sent, carry(line, sent, count, &is_altered), heard, &answers);
         length = carry(line, heard, length, &is_altered);
         if (is_altered && is_mute && line->is_deaf)
             return 0;
     }
     return length;
-}
-
-/* Runs a search to its end. */
-static felosumay_result discover(felosumay_search *search, line *line) {
-    uint8_t request[FELOSUMAY_FRAME_BYTES], heard[FELOSUMAY_FRAME_BYTES];
-    uint64_t count = 0;
-    felosumay_result status = felosumay_search_next(search, request, &count);
-    while (status == FELOSUMAY_DONE) {
-        uint64_t length = transact(line, request, count, heard);
-        status = felosumay_search_hear(search, heard, length);
-        if (status == FELOSUMAY_DONE)
-            status = felosumay_search_next(search, request, &count);
-    }
-    return status;
 }
 
 /* How many fixtures of the line a search found, or -1 if it found another, or one twice. */

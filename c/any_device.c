@@ -63,17 +63,17 @@ static void show_heard(const felosumay_heard *heard) {
 
 /* A message that comes in parts: its last part so far, the data of all, and whether a part may be missing. */
 typedef struct {
-    felosumay_collected last;
+    felosumay_message last;
     uint64_t count;
     int unsure;
     uint8_t data[MOST_JOINED];
 } joined;
 
-static int is_same_parameter(const felosumay_collected *one, const felosumay_collected *other) {
+static int is_same_parameter(const felosumay_message *one, const felosumay_message *other) {
     return one->command_class == other->command_class && one->pid == other->pid && one->sub == other->sub;
 }
 
-static int is_same(const felosumay_collected *one, const felosumay_collected *other) {
+static int is_same(const felosumay_message *one, const felosumay_message *other) {
     return is_same_parameter(one, other) && one->type == other->type && one->count == other->count &&
            memcmp(one->bytes, other->bytes, one->count) == 0;
 }
@@ -88,9 +88,9 @@ static void show_message(const joined *message) {
 }
 
 /* Takes what was collected, and shows each message when its last part is there. What comes again is left out. */
-static void take(felosumay_device_collector *console, joined *message) {
-    felosumay_collected part;
-    while (felosumay_device_collector_next(console, &part) == FELOSUMAY_DONE) {
+static void take(felosumay_collector *console, joined *message) {
+    felosumay_message part;
+    while (felosumay_collector_next(console, &part) == FELOSUMAY_DONE) {
         const int goes_on = message->last.type == FELOSUMAY_ACK_OVERFLOW && is_same_parameter(&part, &message->last);
         message->unsure = goes_on && (message->unsure || part.after_loss);
         if (part.may_repeat && is_same(&part, &message->last))
@@ -108,21 +108,21 @@ static void take(felosumay_device_collector *console, joined *message) {
 }
 
 /* Polls the device until it says that it has no queue. */
-static felosumay_result collect(felosumay_device_collector *console) {
+static felosumay_result collect(felosumay_collector *console) {
     static joined message;
     uint8_t request[FELOSUMAY_FRAME_BYTES], reply[FELOSUMAY_FRAME_BYTES];
     felosumay_heard heard = {0, 0, FELOSUMAY_IGNORED};
     uint64_t count = 0;
     for (size_t i = 0; heard.kind != FELOSUMAY_UNSUPPORTED && i < sizeof ANSWERS / sizeof *ANSWERS; i++) {
-        felosumay_result result = felosumay_device_collector_poll(console, request, &count);
+        felosumay_result result = felosumay_collector_poll(console, request, &count);
         if (result != FELOSUMAY_DONE)
             return result;
         printf("poll%s: ", request[24] == FELOSUMAY_STATUS_GET_LAST_MESSAGE ? " again" : "");
         if (ANSWERS[i].fate == HEARD) {
-            felosumay_device_collector_hear(console, reply, respond(request, &ANSWERS[i], reply), &heard);
+            felosumay_collector_hear(console, reply, respond(request, &ANSWERS[i], reply), &heard);
             show_heard(&heard);
         } else {
-            felosumay_device_collector_over(console);
+            felosumay_collector_over(console);
             printf("silence\n");
         }
         take(console, &message);
@@ -131,44 +131,44 @@ static felosumay_result collect(felosumay_device_collector *console) {
 }
 
 /* A command of the user's meanwhile, and what is refused. */
-static felosumay_result command(felosumay_device_collector *console) {
+static felosumay_result command(felosumay_collector *console) {
     const felosumay_command label = {DEVICE, MAKER, 0, FELOSUMAY_PID_DEVICE_LABEL, FELOSUMAY_GET},
                             queue = {DEVICE, MAKER, 0, FELOSUMAY_PID_QUEUED_MESSAGE, FELOSUMAY_GET},
                             none = {DEVICE, MAKER, 0, FELOSUMAY_PID_DEVICE_LABEL, 0x99};
     const answer said = {HEARD, 0x21, FELOSUMAY_ACK, FELOSUMAY_PID_DEVICE_LABEL, 3, {'P', 'A', 'R'}};
     const uint8_t load[232] = {0};
     uint8_t request[FELOSUMAY_FRAME_BYTES], reply[FELOSUMAY_FRAME_BYTES];
-    felosumay_collected collected;
+    felosumay_message message;
     felosumay_heard heard;
     uint64_t count = 0;
-    printf("unknown %u, reserved %u, too long %u\n", felosumay_device_collector_ask(console, &none, load, 0, request, &count),
-           felosumay_device_collector_ask(console, &queue, load, 1, request, &count),
-           felosumay_device_collector_ask(console, &label, load, 232, request, &count));
-    felosumay_result result = felosumay_device_collector_ask(console, &label, load, 0, request, &count);
-    printf("busy %u, %u\n", felosumay_device_collector_ask(console, &label, load, 0, request, &count),
-           felosumay_device_collector_poll(console, request, &count));
-    felosumay_device_collector_hear(console, reply, respond(request, &said, reply), &heard);
+    printf("unknown %u, reserved %u, too long %u\n", felosumay_collector_ask(console, &none, load, 0, request, &count),
+           felosumay_collector_ask(console, &queue, load, 1, request, &count),
+           felosumay_collector_ask(console, &label, load, 232, request, &count));
+    felosumay_result result = felosumay_collector_ask(console, &label, load, 0, request, &count);
+    printf("busy %u, %u\n", felosumay_collector_ask(console, &label, load, 0, request, &count),
+           felosumay_collector_poll(console, request, &count));
+    felosumay_collector_hear(console, reply, respond(request, &said, reply), &heard);
     printf("command: ");
     show_heard(&heard);
-    printf("next %u\n", felosumay_device_collector_next(console, &collected));
+    printf("next %u\n", felosumay_collector_next(console, &message));
     return result;
 }
 
 int main(void) {
-    felosumay_device_collector console = {0};
-    felosumay_result result = felosumay_device_collector_new(&console, MAKER, CONSOLE, MAKER, DEVICE, FELOSUMAY_STATUS_ADVISORY);
+    felosumay_collector console = {0};
+    felosumay_result result = felosumay_collector_new(&console, MAKER, CONSOLE, MAKER, DEVICE, FELOSUMAY_STATUS_ADVISORY);
     if (result == FELOSUMAY_DONE)
         result = command(&console);
     if (result == FELOSUMAY_DONE)
         result = collect(&console);
     if (result == FELOSUMAY_DONE) {
-        printf("want of 7: %u\n", felosumay_device_collector_new(&console, MAKER, CONSOLE, MAKER, DEVICE, 7));
-        printf("a target of all: %u\n", felosumay_device_collector_new(&console, MAKER, CONSOLE, 0xFFFF, 0xFFFFFFFF, 2));
-        /* the compiler takes one collector for no other; a cast is found out */
-        printf("mistaken %u\n", felosumay_collector_over((felosumay_collector *)&console));
+        printf("want of 7: %u\n", felosumay_collector_new(&console, MAKER, CONSOLE, MAKER, DEVICE, 7));
+        printf("a target of all: %u\n", felosumay_collector_new(&console, MAKER, CONSOLE, 0xFFFF, 0xFFFFFFFF, 2));
+        /* the compiler takes no collector for a search; a cast is found out */
+        printf("mistaken %u\n", felosumay_search_resume((felosumay_search *)&console, 76));
     }
-    felosumay_device_collector_free(&console);
-    printf("absent %u\n", felosumay_device_collector_over(&console));
+    felosumay_collector_free(&console);
+    printf("absent %u\n", felosumay_collector_over(&console));
     if (result != FELOSUMAY_DONE)
         printf("status %u\n", result);
     return result;

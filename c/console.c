@@ -9,7 +9,8 @@ enum { MAKER = 0x7FF0, FIXTURE = 1, CONSOLE = 2, QUEUE_SIZE = 8 };
 /* One request to the device, and its reply, which may be lost. It says what the collector took the reply for. */
 static uint8_t exchange(felosumay_collector *console, felosumay_responder *device, const uint8_t *request, uint64_t count,
                         int lost, felosumay_job *job) {
-    uint8_t reply[FELOSUMAY_FRAME_BYTES], heard = FELOSUMAY_IGNORED;
+    uint8_t reply[FELOSUMAY_FRAME_BYTES];
+    felosumay_heard heard = {0, 0, FELOSUMAY_IGNORED};
     felosumay_stepped stepped = {0, 0, 0, 0, {0, 0, 0, 0, 0, 0, 0}, 0, 0};
     felosumay_responder_step(device, request, count, reply, &stepped);
     if (stepped.started)
@@ -18,7 +19,7 @@ static uint8_t exchange(felosumay_collector *console, felosumay_responder *devic
         felosumay_collector_hear(console, reply, stepped.count, &heard);
     else
         felosumay_collector_over(console);
-    return heard;
+    return heard.kind;
 }
 
 /* The user strikes the lamp: the device starts a job, which fails. */
@@ -64,8 +65,8 @@ static felosumay_result collect(felosumay_collector *console, felosumay_responde
 }
 
 static int is_same(const felosumay_message *one, const felosumay_message *other) {
-    return one->command_class == other->command_class && one->pid == other->pid && one->sub == other->sub &&
-           one->count == other->count && memcmp(one->bytes, other->bytes, one->count) == 0;
+    return one->type == other->type && one->command_class == other->command_class && one->pid == other->pid &&
+           one->sub == other->sub && one->count == other->count && memcmp(one->bytes, other->bytes, one->count) == 0;
 }
 
 /* The request of the second poll is lost, though the first was answered. The third asks for the last message again, and gets the one
@@ -73,7 +74,7 @@ static int is_same(const felosumay_message *one, const felosumay_message *other)
 static felosumay_result repeat(felosumay_collector *console, felosumay_responder *device) {
     uint8_t request[FELOSUMAY_FRAME_BYTES];
     felosumay_job job = {0, 0, 0, 0, 0, 0, 0};
-    felosumay_message message, last = {0, 0, 0, 0, 0, {0}};
+    felosumay_message message, last = {0, 0, 0, 0, 0, 0, 0, 0, 0, {0}};
     uint64_t count = 0;
     printf("start 7: %u\n", felosumay_responder_change_start(device, 7));
     for (int round = 0; round < 3; round++) {

@@ -5,12 +5,13 @@
 
 /* One request: what comes back goes to the collector until it takes it for the answer. If the line is silent, the transaction is over. */
 static uint8_t exchange(felosumay_collector *console, const uint8_t *request, uint64_t count, felosumay_reply *reply) {
-    uint8_t answer[FELOSUMAY_FRAME_BYTES], heard = FELOSUMAY_IGNORED;
+    uint8_t answer[FELOSUMAY_FRAME_BYTES];
+    felosumay_heard heard = {0, 0, FELOSUMAY_IGNORED};
     line_send(request, count);
-    while (heard == FELOSUMAY_IGNORED && (count = line_receive(answer)) != 0)
+    while (heard.kind == FELOSUMAY_IGNORED && (count = line_receive(answer)) != 0)
         felosumay_collector_hear(console, answer, count, &heard);
     felosumay_collector_over(console);
-    return felosumay_reply_read(answer, count, reply) == FELOSUMAY_DONE ? heard : (uint8_t)FELOSUMAY_IGNORED;
+    return felosumay_reply_read(answer, count, reply) == FELOSUMAY_DONE ? heard.kind : (uint8_t)FELOSUMAY_IGNORED;
 }
 
 int main(void) {

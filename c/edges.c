@@ -63,22 +63,18 @@ static felosumay_result nothing(void) {
     const felosumay_command identify = {1, 0x7FF0, 0, FELOSUMAY_PID_IDENTIFY_DEVICE, FELOSUMAY_GET};
     felosumay_responder fixture = {0};
     felosumay_collector console = {0};
-    felosumay_device_collector any = {0};
     felosumay_search search = {0};
     felosumay_stepped stepped;
-    felosumay_heard taken;
-    uint8_t frame[FELOSUMAY_FRAME_BYTES], value[FELOSUMAY_VALUE_BYTES], heard = 9;
+    felosumay_heard heard;
+    uint8_t frame[FELOSUMAY_FRAME_BYTES], value[FELOSUMAY_VALUE_BYTES];
     uint64_t count = 0;
     uint16_t reason = 0;
     felosumay_responder_free(NULL);
     felosumay_collector_free(NULL);
-    felosumay_device_collector_free(NULL);
     felosumay_search_free(NULL);
     felosumay_result result = felosumay_responder_demo(&fixture, 0x7FF0, 1, 0, 8);
     if (result == FELOSUMAY_DONE)
         result = felosumay_collector_new(&console, 0x7FF0, 2, 0x7FF0, 1, FELOSUMAY_STATUS_ADVISORY);
-    if (result == FELOSUMAY_DONE)
-        result = felosumay_device_collector_new(&any, 0x7FF0, 2, 0x7FF0, 1, FELOSUMAY_STATUS_ADVISORY);
     if (result == FELOSUMAY_DONE)
         result = felosumay_search_new(&search, 0x7FF0, 2, 76);
     if (result == FELOSUMAY_DONE) {
@@ -90,12 +86,9 @@ static felosumay_result nothing(void) {
         printf(", restore %u", felosumay_responder_restore(&fixture, NULL, 0));
         printf(", ask %u", felosumay_collector_ask(&console, &identify, NULL, 0, frame, &count));
         printf(", hear %u", felosumay_collector_hear(&console, NULL, 0, &heard));
-        printf(", any device's ask %u", felosumay_device_collector_ask(&any, &identify, NULL, 0, frame, &count));
-        printf(", hear %u", felosumay_device_collector_hear(&any, NULL, 0, &taken));
         printf(", search hears %u\n", felosumay_search_hear(&search, NULL, 0));
     }
     felosumay_search_free(&search);
-    felosumay_device_collector_free(&any);
     felosumay_collector_free(&console);
     felosumay_responder_free(&fixture);
     return result;
@@ -266,7 +259,8 @@ static void give_up(pair *made) {
 
 /* One request of the console's: what the fixture makes of it, and what it replies. */
 static felosumay_stepped send(pair *made, const uint8_t *request, uint64_t count, felosumay_reply *reply) {
-    uint8_t bytes[FELOSUMAY_FRAME_BYTES], heard;
+    uint8_t bytes[FELOSUMAY_FRAME_BYTES];
+    felosumay_heard heard;
     felosumay_stepped stepped;
     felosumay_responder_step(&made->fixture, request, count, bytes, &stepped);
     felosumay_collector_hear(&made->console, bytes, stepped.count, &heard);

@@ -46,7 +46,6 @@ extern "C" {
 
 typedef struct { uint64_t at; } felosumay_responder;
 typedef struct { uint64_t at; } felosumay_collector;
-typedef struct { uint64_t at; } felosumay_device_collector;
 typedef struct { uint64_t at; } felosumay_search;
 
 /* What became of a call. */
@@ -472,6 +471,37 @@ felosumay_result felosumay_responder_outstanding(const felosumay_responder *resp
 /* Gives up what the handle holds, if anything. The handle is {0} again. NULL is no handle, and nothing happens then. */
 void felosumay_responder_free(felosumay_responder *responder);
 
+/* ---- the receiver: it cuts packets and levels out of what a UART hears */
+
+/* It takes no other memory, and starts as {0}: nothing was heard. Never write it; of its fields a program reads `packet` alone. It may
+ * be copied, and then both have heard the same. */
+typedef struct {
+    uint16_t count;
+    uint8_t state;
+    uint8_t packet[FELOSUMAY_FRAME_BYTES]; /* the bytes of a packet, when one is told; they stay until the next call */
+} felosumay_receiver;
+
+/* What has come with a byte. */
+enum {
+    FELOSUMAY_RECEIVED_NOTHING = 0, /* no more than the byte: `number` is 0 */
+    FELOSUMAY_RECEIVED_PACKET = 1,  /* a packet of RDM: `number` bytes at the front of `packet`, 26 to 257 */
+    FELOSUMAY_RECEIVED_LEVEL = 2    /* a level of DMX512: the byte is that of slot `number`, 1 to 512 */
+};
+
+/* Each of these hears one thing, in the order in which the UART tells it: a break; a byte; or that a byte didn't come whole, by a
+ * framing error that is no break, or was lost, by an overrun. They take the same few steps each time, and allocate nothing: call them
+ * where the UART interrupts. docs/FIXTURES.md shows how, and says when a reply is due.
+ *
+ * A packet is told with its last byte. It is what has come since the break, not one byte more or less: CC, 01, a message length of at
+ * least 24, and as many bytes as that says with the 2 of the checksum (E1.20 sections 6.2.1 to 6.2.3 and 6.2.11). Hand it to
+ * `felosumay_responder_step`, which tests the rest: a packet with a wrong checksum is told too, and isn't answered. A level is told of
+ * each slot behind a break and 00, at once; nothing is kept of it. All else tells nothing: other START codes, the answers to discovery,
+ * which have no break before them, bytes behind the end of a packet or behind slot 512, and after an error whatever comes up to the next
+ * break. */
+void felosumay_receiver_break(felosumay_receiver *receiver);
+void felosumay_receiver_error(felosumay_receiver *receiver);
+uint8_t felosumay_receiver_byte(felosumay_receiver *receiver, uint8_t byte, uint16_t *number);
+
 /* ---- frames */
 
 /* The tests of a frame, in their order (E1.20 section 6.2). */
@@ -489,7 +519,7 @@ enum {
  * answer to discovery isn't one. */
 static inline uint8_t felosumay_frame_fault(const uint8_t *bytes, uint64_t length);
 
-/* ---- the collector */
+/* ---- the collector: it fetches the messages of one device, whatever the device answers polls by, and sends commands meanwhile */
 
 typedef struct {
     uint32_t device; /* the device ID and the manufacturer ID of the destination */
@@ -499,12 +529,17 @@ typedef struct {
     uint8_t command_class; /* FELOSUMAY_GET, FELOSUMAY_SET or FELOSUMAY_DISCOVERY */
 } felosumay_command;
 
+/* A message of the device's, or a part of one (E1.20 section 10.3.1). */
 typedef struct {
     uint64_t count; /* how many bytes of data it has: 0 to 231 */
-    uint16_t pid;          /* its parameter, FELOSUMAY_PID_.. or one of the maker's own */
-    uint16_t sub;          /* the sub-device, 1 to 512, or 0 for the root */
+    uint16_t pid;    /* its parameter, FELOSUMAY_PID_.. or one of the maker's own */
+    uint16_t sub;    /* the sub-device, 1 to 512, or 0 for the root */
+    uint16_t reason; /* of a NACK_REASON why an earlier command was rejected, FELOSUMAY_NR_..; else 0 */
+    uint16_t tenths; /* of an ACK_TIMER in how many tenths of a second a result is there; else 0 */
+    uint8_t type;    /* FELOSUMAY_ACK and so on; FELOSUMAY_ACK_OVERFLOW says that it is a part, and that more of it follows */
     uint8_t command_class; /* that of the response: 0x21 of a GET, 0x31 of a SET */
-    uint8_t may_repeat;    /* 1 if it was asked for again, so that it may be the message before it once more; else 0 */
+    uint8_t may_repeat;    /* 1 if it was asked for again, so that it may be what came before it once more; else 0 */
+    uint8_t after_loss;    /* 1 if a poll has no answer since what was recorded before it, so that something may be missing; else 0 */
     uint8_t bytes[FELOSUMAY_VALUE_BYTES];
 } felosumay_message;
 
@@ -537,58 +572,10 @@ enum {
 static inline felosumay_result felosumay_reply_read(const uint8_t *bytes, uint64_t length, felosumay_reply *reply);
 
 /* What a collector takes bytes for. */
-enum { FELOSUMAY_IGNORED = 0, FELOSUMAY_MESSAGE = 1, FELOSUMAY_REPLY = 2 };
-
-/* Makes a collector, and replaces what the handle held. `wants` is 02 for status entries of every severity, 03 for warnings
- * and errors, 04 for errors alone. UNKNOWN; BAD_UID if its own UID or its target's addresses more than one device;
- * OUT_OF_MEMORY, in this order; the handle stays as it was then. */
-felosumay_result felosumay_collector_new(felosumay_collector *collector, uint16_t maker, uint32_t device,
-                                         uint16_t target_maker, uint32_t target_device, uint8_t wants);
-
-/* Makes the request of a command, or of a poll for the target's next message, at the front of `request`, and opens a
- * transaction. Of `ask` UNKNOWN, ABSENT, RESERVED, BUSY, TOO_LONG, and of `poll` ABSENT, BUSY, OUT_OF_MEMORY, in this order;
- * nothing changes then. */
-static inline felosumay_result felosumay_collector_ask(felosumay_collector *collector, const felosumay_command *command,
-                                                       const uint8_t *load, uint64_t length, uint8_t request[FELOSUMAY_FRAME_BYTES],
-                                                       uint64_t *count);
-felosumay_result felosumay_collector_poll(felosumay_collector *collector, uint8_t request[FELOSUMAY_FRAME_BYTES],
-                                          uint64_t *count);
-
-/* Hears bytes, and says what they are taken for. Discovery's answers aren't frames, and are ignored; so is an answer to a poll
- * that isn't ACK, which a `felosumay_device_collector` takes. ABSENT. */
-static inline felosumay_result felosumay_collector_hear(felosumay_collector *collector, const uint8_t *bytes, uint64_t length,
-                                                        uint8_t *heard);
-
-/* Ends the open transaction, if there is one, without an answer: call it on a timeout. If a poll ended so, the next poll asks
- * for the last message again. ABSENT. */
-felosumay_result felosumay_collector_over(felosumay_collector *collector);
-
-/* Takes the first message that was recorded and not taken yet, and lets go of it. A message may come twice in a row: if the
- * request of a poll was lost, the next poll asks for the last message, which may have been recorded already. `may_repeat` of what
- * answers such a poll is 1. ABSENT, NO_MORE, in this order; nothing changes then. */
-felosumay_result felosumay_collector_next(felosumay_collector *collector, felosumay_message *message);
-
-/* Gives up what the handle holds, if anything. The handle is {0} again. NULL is no handle, and nothing happens then. */
-void felosumay_collector_free(felosumay_collector *collector);
-
-/* ---- the collector for any device: it takes whatever a device answers a poll by, where a `felosumay_collector` takes ACK alone */
-
-/* A message, or a part of one (E1.20 section 10.3.1). */
-typedef struct {
-    uint64_t count; /* how many bytes of data it has: 0 to 231 */
-    uint16_t pid;    /* its parameter, FELOSUMAY_PID_.. or one of the maker's own */
-    uint16_t sub;    /* the sub-device, 1 to 512, or 0 for the root */
-    uint16_t reason; /* of a NACK_REASON why an earlier command was rejected, FELOSUMAY_NR_..; else 0 */
-    uint16_t tenths; /* of an ACK_TIMER in how many tenths of a second a result is there; else 0 */
-    uint8_t type;    /* FELOSUMAY_ACK and so on; FELOSUMAY_ACK_OVERFLOW says that it is a part, and that more of it follows */
-    uint8_t command_class; /* that of the response: 0x21 of a GET, 0x31 of a SET */
-    uint8_t may_repeat;    /* 1 if it was asked for again, so that it may be what came before it once more; else 0 */
-    uint8_t after_loss;    /* 1 if a poll has no answer since what was recorded before it, so that something may be missing; else 0 */
-    uint8_t bytes[FELOSUMAY_VALUE_BYTES];
-} felosumay_collected;
-
-/* What such a collector takes bytes for: IGNORED, MESSAGE and REPLY as a `felosumay_collector` does, and besides these: */
 enum {
+    FELOSUMAY_IGNORED = 0,      /* nothing that it waits for */
+    FELOSUMAY_MESSAGE = 1,      /* a message, which answers the open poll */
+    FELOSUMAY_REPLY = 2,        /* the reply to the open command */
     FELOSUMAY_PART = 3,         /* a part of a message (ACK_OVERFLOW): the next polls fetch the others (section 6.3.2) */
     FELOSUMAY_UNSUPPORTED = 4,  /* the device has no queue: it knows no QUEUED_MESSAGE (section 6.3.4) */
     FELOSUMAY_POLL_REFUSED = 5, /* the device rejects the poll for another reason; the next poll goes on */
@@ -601,30 +588,40 @@ typedef struct {
     uint8_t kind;    /* FELOSUMAY_IGNORED and so on */
 } felosumay_heard;
 
-/* `new`, `ask`, `poll` and `over` are those of a `felosumay_collector`: they take and answer the same. After NOT_YET, too, the next
- * poll asks for the last message again if this one did. */
-felosumay_result felosumay_device_collector_new(felosumay_device_collector *collector, uint16_t maker, uint32_t device,
-                                                uint16_t target_maker, uint32_t target_device, uint8_t wants);
-static inline felosumay_result felosumay_device_collector_ask(felosumay_device_collector *collector,
-                                                              const felosumay_command *command, const uint8_t *load, uint64_t length,
-                                                              uint8_t request[FELOSUMAY_FRAME_BYTES], uint64_t *count);
-felosumay_result felosumay_device_collector_poll(felosumay_device_collector *collector, uint8_t request[FELOSUMAY_FRAME_BYTES],
-                                                 uint64_t *count);
-felosumay_result felosumay_device_collector_over(felosumay_device_collector *collector);
+/* Makes a collector, and replaces what the handle held. `wants` is 02 for status entries of every severity, 03 for warnings
+ * and errors, 04 for errors alone. UNKNOWN; BAD_UID if its own UID or its target's addresses more than one device;
+ * OUT_OF_MEMORY, in this order; the handle stays as it was then. */
+felosumay_result felosumay_collector_new(felosumay_collector *collector, uint16_t maker, uint32_t device,
+                                         uint16_t target_maker, uint32_t target_device, uint8_t wants);
 
-/* Hears bytes, and says what they are taken for: any response in the open transaction answers it. ABSENT. */
-static inline felosumay_result felosumay_device_collector_hear(felosumay_device_collector *collector, const uint8_t *bytes,
-                                                               uint64_t length, felosumay_heard *heard);
+/* Makes the request of a command, or of a poll for the target's next message, at the front of `request`, and opens a
+ * transaction. After NOT_YET a poll asks for what the poll before it asked for. Of `ask` UNKNOWN, ABSENT, RESERVED, BUSY, TOO_LONG, and
+ * of `poll` ABSENT, BUSY, OUT_OF_MEMORY, in this order; nothing changes then. */
+static inline felosumay_result felosumay_collector_ask(felosumay_collector *collector, const felosumay_command *command,
+                                                       const uint8_t *load, uint64_t length, uint8_t request[FELOSUMAY_FRAME_BYTES],
+                                                       uint64_t *count);
+felosumay_result felosumay_collector_poll(felosumay_collector *collector, uint8_t request[FELOSUMAY_FRAME_BYTES],
+                                          uint64_t *count);
 
-/* Takes the first message, or part of one, that was recorded and not taken yet, and lets go of it. The data of a message in parts
- * are those of its parts, one behind the other: each of type ACK_OVERFLOW but the last, and all of one command class, PID and
- * sub-device. One whose `may_repeat` is 1 and that is equal to the one before it is that one again, and left out. Two parts of a device
- * that say the same look like one that came again: where `after_loss` of a part behind the first is 1, the message is unsure,
- * since a part may be missing. ABSENT, NO_MORE, in this order; nothing changes then. */
-felosumay_result felosumay_device_collector_next(felosumay_device_collector *collector, felosumay_collected *collected);
+/* Hears bytes, and says what they are taken for: any response in the open transaction answers it. Discovery's answers aren't frames,
+ * and are ignored. ABSENT. */
+static inline felosumay_result felosumay_collector_hear(felosumay_collector *collector, const uint8_t *bytes, uint64_t length,
+                                                        felosumay_heard *heard);
+
+/* Ends the open transaction, if there is one, without an answer: call it on a timeout. If a poll ended so, the next poll asks
+ * for the last message again. ABSENT. */
+felosumay_result felosumay_collector_over(felosumay_collector *collector);
+
+/* Takes the first message, or part of one, that was recorded and not taken yet, and lets go of it. A message may come twice in a
+ * row: if the request of a poll was lost, the next poll asks for the last message, which may have been recorded already. One whose
+ * `may_repeat` is 1 and that is equal to the one before it is that one again, and left out. The data of a message in parts are
+ * those of its parts, one behind the other: each of type ACK_OVERFLOW but the last, and all of one command class, PID and
+ * sub-device. Two parts of a device that say the same look like one that came again: where `after_loss` of a part behind the first
+ * is 1, the message is unsure, since a part may be missing. ABSENT, NO_MORE, in this order; nothing changes then. */
+felosumay_result felosumay_collector_next(felosumay_collector *collector, felosumay_message *message);
 
 /* Gives up what the handle holds, if anything. The handle is {0} again. NULL is no handle, and nothing happens then. */
-void felosumay_device_collector_free(felosumay_device_collector *collector);
+void felosumay_collector_free(felosumay_collector *collector);
 
 /* ---- the search for the fixtures of a line */
 
@@ -775,26 +772,10 @@ static inline felosumay_result felosumay_collector_ask(felosumay_collector *coll
 }
 
 felosumay_result felosumay_collector_hear_nonnull(felosumay_collector *collector, const uint8_t *bytes, uint64_t length,
-                                                  uint8_t *heard);
+                                                  felosumay_heard *heard);
 static inline felosumay_result felosumay_collector_hear(felosumay_collector *collector, const uint8_t *bytes, uint64_t length,
-                                                        uint8_t *heard) {
+                                                        felosumay_heard *heard) {
     return felosumay_collector_hear_nonnull(collector, felosumay_bytes(bytes, length), length, heard);
-}
-
-felosumay_result felosumay_device_collector_ask_nonnull(felosumay_device_collector *collector, const felosumay_command *command,
-                                                        const uint8_t *load, uint64_t length, uint8_t request[FELOSUMAY_FRAME_BYTES],
-                                                        uint64_t *count);
-static inline felosumay_result felosumay_device_collector_ask(felosumay_device_collector *collector,
-                                                              const felosumay_command *command, const uint8_t *load, uint64_t length,
-                                                              uint8_t request[FELOSUMAY_FRAME_BYTES], uint64_t *count) {
-    return felosumay_device_collector_ask_nonnull(collector, command, felosumay_bytes(load, length), length, request, count);
-}
-
-felosumay_result felosumay_device_collector_hear_nonnull(felosumay_device_collector *collector, const uint8_t *bytes, uint64_t length,
-                                                         felosumay_heard *heard);
-static inline felosumay_result felosumay_device_collector_hear(felosumay_device_collector *collector, const uint8_t *bytes,
-                                                               uint64_t length, felosumay_heard *heard) {
-    return felosumay_device_collector_hear_nonnull(collector, felosumay_bytes(bytes, length), length, heard);
 }
 
 felosumay_result felosumay_search_hear_nonnull(felosumay_search *search, const uint8_t *bytes, uint64_t length);
@@ -866,7 +847,6 @@ void rattle_dealloc(void *at);
 
 FELOSUMAY_ASSERT(sizeof(felosumay_responder) == 8);
 FELOSUMAY_ASSERT(sizeof(felosumay_collector) == 8);
-FELOSUMAY_ASSERT(sizeof(felosumay_device_collector) == 8);
 FELOSUMAY_ASSERT(sizeof(felosumay_search) == 8);
 FELOSUMAY_ASSERT(sizeof(felosumay_text) == 33);
 FELOSUMAY_ASSERT(sizeof(felosumay_personality) == 36);
@@ -897,13 +877,14 @@ FELOSUMAY_ASSERT(sizeof(felosumay_stepped) == 32);
 FELOSUMAY_ASSERT(offsetof(felosumay_stepped, replied) == 8);
 FELOSUMAY_ASSERT(offsetof(felosumay_stepped, job) == 12);
 FELOSUMAY_ASSERT(sizeof(felosumay_outcome) == 10);
+FELOSUMAY_ASSERT(sizeof(felosumay_receiver) == 260);
+FELOSUMAY_ASSERT(offsetof(felosumay_receiver, state) == 2);
+FELOSUMAY_ASSERT(offsetof(felosumay_receiver, packet) == 3);
 FELOSUMAY_ASSERT(sizeof(felosumay_command) == 12);
-FELOSUMAY_ASSERT(sizeof(felosumay_message) == 248);
+FELOSUMAY_ASSERT(sizeof(felosumay_message) == 256);
 FELOSUMAY_ASSERT(offsetof(felosumay_message, pid) == 8);
 FELOSUMAY_ASSERT(sizeof(felosumay_reply) == 256);
 FELOSUMAY_ASSERT(offsetof(felosumay_reply, device) == 8);
-FELOSUMAY_ASSERT(sizeof(felosumay_collected) == 256);
-FELOSUMAY_ASSERT(offsetof(felosumay_collected, pid) == 8);
 FELOSUMAY_ASSERT(sizeof(felosumay_heard) == 6);
 FELOSUMAY_ASSERT(sizeof(felosumay_found) == 16);
 FELOSUMAY_ASSERT(sizeof(felosumay_name) == 16);

@@ -83,6 +83,20 @@ template <class Choices> void lend_choices(felosumay_profile &profile, const Cho
     profile.choice_count = std::size(choices);
 }
 
+// Cuts packets and levels out of what a UART hears. It owns nothing, and may be copied.
+class receiver {
+public:
+    void hear_break() noexcept { felosumay_receiver_break(&state_); }
+    void hear_error() noexcept { felosumay_receiver_error(&state_); }
+    // What has come with a byte, FELOSUMAY_RECEIVED_..: of a packet `number` is how many bytes it has, and of a level which slot it is of.
+    std::uint8_t hear(std::uint8_t byte, std::uint16_t &number) noexcept { return felosumay_receiver_byte(&state_, byte, &number); }
+    // The bytes of the packet that `hear` has told, of which there are so many. They stay until the next call.
+    bytes packet(std::uint16_t number) const noexcept { return bytes(state_.packet, number); }
+
+private:
+    felosumay_receiver state_{};
+};
+
 // A handle of C's that frees what it holds.
 template <class Handle, void (*Free)(Handle *)> class owner {
 public:
@@ -180,29 +194,11 @@ public:
     [[nodiscard]] result poll(frame &request) noexcept {
         return felosumay_collector_poll(get(), request.room.data(), &request.count);
     }
-    [[nodiscard]] result hear(bytes heard, std::uint8_t &as) noexcept {
+    [[nodiscard]] result hear(bytes heard, felosumay_heard &as) noexcept {
         return felosumay_collector_hear(get(), heard.data(), heard.size(), &as);
     }
     [[nodiscard]] result over() noexcept { return felosumay_collector_over(get()); }
     [[nodiscard]] result next(felosumay_message &message) noexcept { return felosumay_collector_next(get(), &message); }
-};
-
-class device_collector : public owner<felosumay_device_collector, felosumay_device_collector_free> {
-public:
-    [[nodiscard]] result make(uid own, uid target, std::uint8_t wants) noexcept {
-        return felosumay_device_collector_new(get(), own.maker, own.device, target.maker, target.device, wants);
-    }
-    [[nodiscard]] result ask(const felosumay_command &command, bytes load, frame &request) noexcept {
-        return felosumay_device_collector_ask(get(), &command, load.data(), load.size(), request.room.data(), &request.count);
-    }
-    [[nodiscard]] result poll(frame &request) noexcept {
-        return felosumay_device_collector_poll(get(), request.room.data(), &request.count);
-    }
-    [[nodiscard]] result hear(bytes heard, felosumay_heard &as) noexcept {
-        return felosumay_device_collector_hear(get(), heard.data(), heard.size(), &as);
-    }
-    [[nodiscard]] result over() noexcept { return felosumay_device_collector_over(get()); }
-    [[nodiscard]] result next(felosumay_collected &collected) noexcept { return felosumay_device_collector_next(get(), &collected); }
 };
 
 class search : public owner<felosumay_search, felosumay_search_free> {

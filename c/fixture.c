@@ -59,8 +59,9 @@ static felosumay_stepped ask(felosumay_collector *bus, felosumay_responder *fixt
 
 /* The controller fetches the next message that waits. */
 static felosumay_result fetch(felosumay_collector *bus, felosumay_responder *fixture) {
-    uint8_t request[FELOSUMAY_FRAME_BYTES], reply[FELOSUMAY_FRAME_BYTES], heard = FELOSUMAY_IGNORED;
+    uint8_t request[FELOSUMAY_FRAME_BYTES], reply[FELOSUMAY_FRAME_BYTES];
     felosumay_stepped stepped;
+    felosumay_heard heard;
     felosumay_message message;
     uint64_t count = 0;
     felosumay_result status = felosumay_collector_poll(bus, request, &count);

@@ -1,11 +1,7 @@
 /* A fixture with parameters of E1.20 and E1.37-1 that few have: orders to reset it and to capture a preset, counts of bad frames, a clock,
  * two scenes, and a lock of its start address. It shows how the firmware learns what a controller asks of it. locked.txt has what it
  * prints: the bytes of the replies are worked out by hand from docs/PARAMETERS.md. docs/C.md reads it part by part. */
-#include "felosumay.h"
-#include "felosumay_names.h"
-#include <stdio.h>
-
-enum { MAKER = 0x7FF0, FIXTURE = 1, CONSOLE = 2 };
+#include "asked.h"
 
 /* By ascending PID. The PIN is 1234 at first; the first scene can only be read; RESET_DEVICE takes 01, warm, and FF, cold. */
 static const felosumay_parameter PARAMETERS[] = {
@@ -56,11 +52,6 @@ static const felosumay_profile PROFILE = {
     1, {{FELOSUMAY_PID_DMX_START_ADDRESS, 1}},
 };
 
-static void print_bytes(const uint8_t *bytes, uint64_t count) {
-    for (size_t i = 0; i < count; i++)
-        printf("%02X%s", bytes[i], i + 1 < count ? " " : "\n");
-}
-
 /* What the firmware does with an order: it reads its data, which no GET reads, and carries it out once the reply is on the line. */
 static void carry_out(const felosumay_responder *fixture, uint16_t pid) {
     uint8_t order[FELOSUMAY_VALUE_BYTES];
@@ -90,17 +81,6 @@ static void look(const felosumay_responder *fixture, const felosumay_stepped *st
     default:
         printf("%s has another value\n", felosumay_parameter_name(stepped->changed_parameter));
     }
-}
-
-/* Makes a request of the console, at the front of `request`. */
-static uint64_t make(felosumay_collector *bus, uint16_t pid, uint8_t command_class, const uint8_t *load, uint64_t length,
-                   uint8_t request[FELOSUMAY_FRAME_BYTES]) {
-    const felosumay_command command = {FIXTURE, MAKER, 0, pid, command_class};
-    uint64_t count = 0;
-    if (felosumay_collector_ask(bus, &command, load, length, request, &count) != FELOSUMAY_DONE)
-        return 0;
-    felosumay_collector_over(bus);
-    return count;
 }
 
 /* COMMS_STATUS counts frames that are cut, of another length than they say, and with a wrong checksum: 2 bytes for each. */
@@ -194,21 +174,14 @@ static void clock_and_counts(felosumay_collector *bus, felosumay_responder *fixt
     ask(bus, fixture, FELOSUMAY_PID_COMMS_STATUS, FELOSUMAY_GET, NULL, 0);
 }
 
+static felosumay_result play(felosumay_collector *bus, felosumay_responder *fixture) {
+    lock(bus, fixture);
+    order(bus, fixture);
+    scenes(bus, fixture);
+    clock_and_counts(bus, fixture);
+    return FELOSUMAY_DONE;
+}
+
 int main(void) {
-    felosumay_responder fixture = {0};
-    felosumay_collector bus = {0};
-    felosumay_result status = felosumay_responder_new(&fixture, MAKER, FIXTURE, &PROFILE, 8);
-    if (status == FELOSUMAY_DONE)
-        status = felosumay_collector_new(&bus, MAKER, CONSOLE, MAKER, FIXTURE, FELOSUMAY_STATUS_ADVISORY);
-    if (status == FELOSUMAY_DONE) {
-        lock(&bus, &fixture);
-        order(&bus, &fixture);
-        scenes(&bus, &fixture);
-        clock_and_counts(&bus, &fixture);
-    }
-    felosumay_collector_free(&bus);
-    felosumay_responder_free(&fixture);
-    if (status != FELOSUMAY_DONE)
-        printf("status %u\n", status);
-    return status;
+    return play_with(&PROFILE, play);
 }

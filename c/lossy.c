@@ -70,7 +70,8 @@ static int is_right(const felosumay_message *message, int asked_again) {
 static void exchange(felosumay_collector *console, felosumay_responder *fixture, uint8_t *request, uint64_t count, int is_bad) {
     static uint8_t old[FELOSUMAY_FRAME_BYTES];
     static uint64_t old_count;
-    uint8_t reply[FELOSUMAY_FRAME_BYTES], heard = FELOSUMAY_IGNORED;
+    uint8_t reply[FELOSUMAY_FRAME_BYTES];
+    felosumay_heard heard = {0, 0, FELOSUMAY_IGNORED};
     felosumay_stepped stepped;
     count = carry(request, count, is_bad);
     felosumay_responder_step(fixture, request, count, reply, &stepped);
@@ -79,7 +80,7 @@ static void exchange(felosumay_collector *console, felosumay_responder *fixture,
     if (is_bad && chance(100) < 5)
         felosumay_collector_hear(console, old, old_count, &heard);
     count = stepped.replied ? carry(reply, stepped.count, is_bad) : 0;
-    if (heard == FELOSUMAY_IGNORED)
+    if (heard.kind == FELOSUMAY_IGNORED)
         felosumay_collector_hear(console, reply, count, &heard);
     felosumay_collector_over(console);
     memcpy(old, reply, count);

@@ -87,20 +87,7 @@ felosumay_result felosumay_collector_ask_nonnull(felosumay_collector *collector,
 }
 
 felosumay_result felosumay_collector_hear_nonnull(felosumay_collector *collector, const uint8_t *bytes, uint64_t length,
-                                                  uint8_t *heard) {
-    (void)collector, (void)heard;
-    return look(bytes, length);
-}
-
-felosumay_result felosumay_device_collector_ask_nonnull(felosumay_device_collector *collector, const felosumay_command *command,
-                                                        const uint8_t *load, uint64_t length, uint8_t request[FELOSUMAY_FRAME_BYTES],
-                                                        uint64_t *count) {
-    (void)collector, (void)command, (void)request, (void)count;
-    return look(load, length);
-}
-
-felosumay_result felosumay_device_collector_hear_nonnull(felosumay_device_collector *collector, const uint8_t *bytes, uint64_t length,
-                                                         felosumay_heard *heard) {
+                                                  felosumay_heard *heard) {
     (void)collector, (void)heard;
     return look(bytes, length);
 }
@@ -134,8 +121,6 @@ static void call_each(void) {
     felosumay_reply_read(read, count, NULL);
     felosumay_collector_ask(NULL, NULL, read, count, NULL, NULL);
     felosumay_collector_hear(NULL, read, count, NULL);
-    felosumay_device_collector_ask(NULL, NULL, read, count, NULL, NULL);
-    felosumay_device_collector_hear(NULL, read, count, NULL);
     felosumay_search_hear(NULL, read, count);
 }
 
@@ -148,7 +133,7 @@ int main(void) {
     passed = parameters;
     passed_count = 2;
     call_each();
-    if (calls != 4 * 21)
-        printf("%d calls, not 4 times 21\n", calls);
-    return wrong != 0 || calls != 4 * 21;
+    if (calls != 4 * 19)
+        printf("%d calls, not 4 times 19\n", calls);
+    return wrong != 0 || calls != 4 * 19;
 }

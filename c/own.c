@@ -1,11 +1,9 @@
 /* A fixture with parameters of its maker's own: an LED wash of 40 slots has a colour temperature, a mode of its fan and a counter, and
  * neither lamps nor pan and tilt. own.txt has what it prints: the bytes of the replies are worked out by hand from E1.20.
  * docs/C.md reads it part by part. */
-#include "felosumay.h"
-#include "felosumay_names.h"
-#include <stdio.h>
+#include "asked.h"
 
-enum { MAKER = 0x7FF0, FIXTURE = 1, CONSOLE = 2, COLOUR_TEMPERATURE = 0x8000, FAN_MODE = 0x8001, FLASHES = 0x8002 };
+enum { COLOUR_TEMPERATURE = 0x8000, FAN_MODE = 0x8001, FLASHES = 0x8002 };
 
 /* By ascending PID. The unit of E1.20 for kelvin is none. FACTORY_DEFAULTS sets back the settings, and leaves the counter. */
 static const felosumay_parameter PARAMETERS[] = {
@@ -51,17 +49,11 @@ static const felosumay_profile PROFILE = {
 /* Asks the fixture, and prints its reply. */
 static felosumay_stepped ask(felosumay_collector *bus, felosumay_responder *fixture, uint16_t pid, uint8_t command_class,
                              const uint8_t *load, uint64_t length) {
-    const felosumay_command command = {FIXTURE, MAKER, 0, pid, command_class};
     felosumay_stepped stepped = {0, 0, 0, 0, {0, 0, 0, 0, 0, 0, 0}, 0, 0};
     uint8_t request[FELOSUMAY_FRAME_BYTES], reply[FELOSUMAY_FRAME_BYTES];
-    uint64_t count = 0;
-    if (felosumay_collector_ask(bus, &command, load, length, request, &count) != FELOSUMAY_DONE)
-        return stepped;
-    if (felosumay_responder_step(fixture, request, count, reply, &stepped) == FELOSUMAY_DONE && stepped.replied) {
-        for (size_t i = 0; i < stepped.count; i++)
-            printf("%02X%s", reply[i], i + 1 < stepped.count ? " " : "\n");
-    }
-    felosumay_collector_over(bus);
+    uint64_t count = make(bus, pid, command_class, load, length, request);
+    if (felosumay_responder_step(fixture, request, count, reply, &stepped) == FELOSUMAY_DONE && stepped.replied)
+        print_bytes(reply, stepped.count);
     return stepped;
 }
 
@@ -110,21 +102,14 @@ static void set_back(felosumay_collector *bus, felosumay_responder *fixture) {
     ask(bus, fixture, FLASHES, FELOSUMAY_GET, NULL, 0);
 }
 
-int main(void) {
-    felosumay_responder fixture = {0};
-    felosumay_collector bus = {0};
-    felosumay_result status = felosumay_responder_new(&fixture, MAKER, FIXTURE, &PROFILE, 8);
-    if (status == FELOSUMAY_DONE)
-        status = felosumay_collector_new(&bus, MAKER, CONSOLE, MAKER, FIXTURE, FELOSUMAY_STATUS_ADVISORY);
-    if (status == FELOSUMAY_DONE) {
-        explore(&bus, &fixture);
-        set(&bus, &fixture);
-        status = count_flash(&fixture);
-        set_back(&bus, &fixture);
-    }
-    felosumay_collector_free(&bus);
-    felosumay_responder_free(&fixture);
-    if (status != FELOSUMAY_DONE)
-        printf("status %u\n", status);
+static felosumay_result play(felosumay_collector *bus, felosumay_responder *fixture) {
+    explore(bus, fixture);
+    set(bus, fixture);
+    felosumay_result status = count_flash(fixture);
+    set_back(bus, fixture);
     return status;
+}
+
+int main(void) {
+    return play_with(&PROFILE, play);
 }

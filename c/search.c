@@ -1,8 +1,7 @@
 /* A console's program: a search finds the fixtures of a line. Three responders are the line, on which all answers at one time
- * sound as one. docs/C.md shows `discover`. */
-#include "felosumay.h"
+ * sound as one. searched.h runs the search. */
+#include "searched.h"
 #include <stdio.h>
-#include <string.h>
 
 enum { MAKER = 0x7FF0, CONSOLE = 0xC0, PLACES = 3, QUEUE_SIZE = 1 };
 
@@ -11,7 +10,7 @@ enum { MAKER = 0x7FF0, CONSOLE = 0xC0, PLACES = 3, QUEUE_SIZE = 1 };
 enum sound { MIXED, NOISE, PHANTOM };
 
 /* A line: the fixtures that are plugged in, and what its owner counts. */
-typedef struct {
+struct line {
     felosumay_responder fixtures[PLACES];
     felosumay_responder phantom; /* what isn't there, and sounds if more than one answers */
     uint32_t devices[PLACES];
@@ -19,25 +18,15 @@ typedef struct {
     enum sound sound;
     unsigned transactions;
     unsigned collisions;
-} line;
+};
 
-/* Sends a request, and waits for what comes: the bytes of whoever answers, none if nobody does. */
+/* What sounds after a request: if more than one answers, a collision. */
 static uint64_t transact(line *line, const uint8_t *request, uint64_t count, uint8_t heard[FELOSUMAY_FRAME_BYTES]) {
     uint8_t reply[FELOSUMAY_FRAME_BYTES];
     felosumay_stepped stepped;
-    uint64_t length = 0;
-    int answers = 0;
+    int answers;
+    uint64_t length = answer_of(line->fixtures, line->plugged_in, request, count, heard, &answers);
     line->transactions++;
-    memset(heard, 0, FELOSUMAY_FRAME_BYTES);
-    for (int i = 0; i < line->plugged_in; i++) {
-        felosumay_responder_step(&line->fixtures[i], request, count, reply, &stepped);
-        if (!stepped.replied)
-            continue;
-        for (size_t k = 0; k < stepped.count; k++)
-            heard[k] |= reply[k];
-        length = stepped.count > length ? stepped.count : length;
-        answers++;
-    }
     if (answers < 2)
         return length;
     line->collisions++;
@@ -50,20 +39,6 @@ static uint64_t transact(line *line, const uint8_t *request, uint64_t count, uin
             memcpy(heard, reply, stepped.count);
     }
     return length;
-}
-
-/* Runs a search to its end: each request that it tells is sent, and it hears what came. */
-static felosumay_result discover(felosumay_search *search, line *line) {
-    uint8_t request[FELOSUMAY_FRAME_BYTES], heard[FELOSUMAY_FRAME_BYTES];
-    uint64_t count = 0;
-    felosumay_result status = felosumay_search_next(search, request, &count);
-    while (status == FELOSUMAY_DONE) {
-        uint64_t length = transact(line, request, count, heard);
-        status = felosumay_search_hear(search, heard, length);
-        if (status == FELOSUMAY_DONE)
-            status = felosumay_search_next(search, request, &count);
-    }
-    return status;
 }
 
 /* Prints what was found, and says whether it is the fixtures that are plugged in, each once. */

@@ -33,7 +33,7 @@ felosumay_reply set(felosumay::collector &console, felosumay::responder &fixture
     felosumay::frame request, answer;
     felosumay_stepped stepped{};
     felosumay_reply reply{};
-    std::uint8_t heard = FELOSUMAY_IGNORED;
+    felosumay_heard heard{};
     bool kept = false;
     if (console.ask(command, data, request) != FELOSUMAY_DONE || fixture.step(request, answer, stepped) != FELOSUMAY_DONE ||
         console.hear(answer, heard) != FELOSUMAY_DONE || felosumay::read_reply(answer, reply) != FELOSUMAY_DONE)
@@ -113,7 +113,7 @@ int main() {
     felosumay::frame request, answer;
     felosumay_stepped stepped;
     felosumay_message message;
-    std::uint8_t heard = FELOSUMAY_IGNORED;
+    felosumay_heard heard{};
     if (console.poll(request) != FELOSUMAY_DONE || fixture.step(request, answer, stepped) != FELOSUMAY_DONE ||
         console.hear(answer, heard) != FELOSUMAY_DONE || console.next(message) != FELOSUMAY_DONE)
         return 1;

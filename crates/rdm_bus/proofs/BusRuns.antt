@@ -81,7 +81,7 @@ command_leaves queues statuses sets h f request fits q s (Spoilt bytes e none) =
 -- ---- a poll
 
 -- what a poll asks for
-poll_ask : (p : Parameters) (unanswered : Bool) (want : Want) → (ask : Ask) × (got p 0 0x0020 (cond unanswered 1 (type_of want) ∷ []) ≡ Queue ask) × (is_last ask ≡ unanswered)
+pub poll_ask : (p : Parameters) (unanswered : Bool) (want : Want) → (ask : Ask) × (got p 0 0x0020 (cond unanswered 1 (type_of want) ∷ []) ≡ Queue ask) × (is_last ask ≡ unanswered)
 poll_ask p true want = (asks.Last, got_last p, refl)
 poll_ask p false Advisory = (asks.Advisory, got_advisory p, refl)
 poll_ask p false Warning = (asks.Warning, got_warning p, refl)
@@ -112,7 +112,7 @@ whole_poll s waiting f fits ask last (Unanswered none same) =
     let silent : reply_of s.history (frame_text (poll_request (controller_at s))) ≡ None = reply_is s.history _ _ read ∙ none in
     no_reply s.history s.unanswered _ _ _ silent (ap (hears waiting f) silent)
     (heard_frame s.history (frame_text (poll_request (controller_at s))) (poll_request (controller_at s)) read ∙ ap (λ (a : Account). queue_at a.outbox) same)
-whole_poll s waiting f fits ask last (Answered r some is same) =
+whole_poll s waiting f fits ask last (Answered r port some is same) =
     let read = read_as_itself (poll_request (controller_at s)) fits in
     let reply : reply_of s.history (frame_text (poll_request (controller_at s))) ≡ Some (frame_text r) = reply_is s.history _ _ read ∙ some in
     let one = polled (outbox_of s.history) s.unanswered ask (hears waiting f (reply_of s.history (frame_text (poll_request (controller_at s))))) last (within s.history) in

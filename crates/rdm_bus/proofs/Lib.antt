@@ -1,5 +1,6 @@
 pub mod Accounts
 pub mod BusRuns
+pub mod DeviceCollectors
 pub mod Devices
 pub mod Headlines
 pub mod Hearing

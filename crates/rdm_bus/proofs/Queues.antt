@@ -307,10 +307,10 @@ pub polled : (b : outbox.Account) (again : Bool) (ask : Ask) (heard : Bool) → 
 polled b true ask heard e w = (rw e refl, rw e refl)
 polled b false ask heard e w = (rw e (is_next b.arrived b.given (slice_get b.arrived b.given) _ refl), rw e (after_next_is b ask _ refl w))
 
--- What becomes of a poll: it isn't for the device, and nothing comes of it; or it has the reply of the queue.
+-- What becomes of a poll: it isn't for the device, and nothing comes of it; or it has the reply of the queue, an ACK.
 pub data Poll (a : Account) (own : Uid) (f : Frame) (ask : Ask) : Type 0 where
   Unanswered : answer_to a (request_of own f) ≡ None → account_with a (request_of own f) ≡ a → Poll a own f ask
-  Answered : (r : Frame) → answer_to a (request_of own f) ≡ Some (frame_text r) → message_of r ≡ dispensed a.outbox ask → (account_with a (request_of own f)).outbox ≡ after_dispense a.outbox ask → Poll a own f ask
+  Answered : (r : Frame) → r.port ≡ 0 → answer_to a (request_of own f) ≡ Some (frame_text r) → message_of r ≡ dispensed a.outbox ask → (account_with a (request_of own f)).outbox ≡ after_dispense a.outbox ask → Poll a own f ask
 
 ignored : (a : Account) (own : Uid) (f : Frame) (ask : Ask) → request_of own f ≡ Ignored → Poll a own f ask
 ignored a own f ask e = Unanswered (ap (answer_to a) e) (ap (account_with a) e)
@@ -326,7 +326,7 @@ answered_one own f count r one = cond-false _ _ _ one
 taken : (a : Account) (own : Uid) (f : Frame) (ask : Ask) → request_of own f ≡ Get f → is_broadcast f.dst ≡ false → got a.parameters f.sub f.pid f.body ≡ Queue ask → Poll a own f ask
 taken a own f ask e one is =
     let count : ℕ = message_count (after_dispense a.outbox ask) in
-    Answered (response a.setup.uid f count (ack_message (dispensed a.outbox ask)))
+    Answered (response a.setup.uid f count (ack_message (dispensed a.outbox ask))) refl
     (ap (answer_to a) e ∙ ap (reply_with a.setup.uid a.parameters.profile a.outbox f) is ∙ answered_one a.setup.uid f count (ack_message (dispensed a.outbox ask)) one)
     refl
     (ap (λ (q : Request). (account_with a q).outbox) e ∙ ap (outbox_after a.outbox) is)

@@ -39,7 +39,7 @@ use Rattle.rdm_bus.proofs.BusRuns.{reply_is}
 -- ---- what is altered
 
 -- A reply is the text of a frame, or has the 24 bytes of an answer in discovery.
-data IsReplyText (r : List ℕ) : Type 0 where
+pub data IsReplyText (r : List ℕ) : Type 0 where
   IsText : (g : Frame) → r ≡ frame_text g → IsReplyText r
   IsBranch : length r ≡ 24 → IsReplyText r
 
@@ -73,7 +73,7 @@ text_is_long : (g : Frame) → 26 ≤ length (frame_text g)
 unfolding head_slots
 text_is_long g = omega (arith, text_length g, length-append (head_slots g) g.body)
 
-altered_text : (r : List ℕ) (k x : ℕ) → IsReplyText r → ((i : ℕ) → slice_index r i < 256) → 0 < x → x < 256 → frame_in (altered r k x) ≡ None
+pub altered_text : (r : List ℕ) (k x : ℕ) → IsReplyText r → ((i : ℕ) → slice_index r i < 256) → 0 < x → x < 256 → frame_in (altered r k x) ≡ None
 altered_text r k x (IsBranch n) bytes some small =
     none_in (altered r k x) (λ g e. omega (arith, text_is_long g, ap length e, length-set r (k % length r) ((slice_index r (k % length r) + x) % 256)))
 altered_text r k x (IsText g e) bytes some small =

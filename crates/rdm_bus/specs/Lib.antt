@@ -8,3 +8,4 @@ pub mod Numbering
 pub mod Hearing
 pub mod Systems
 pub mod Steps
+pub mod DeviceCollectors

@@ -3,6 +3,7 @@
 ghost use Rattle.std.specs.Prelude.{◌≡◌, ◌↔◌, IsTrue};
 ghost use Rattle.rdm_bus.specs.Devices.{dequeues_again, forgets_empty_status, BreaksPrefixLaw, RightDeviceIsPolled};
 ghost use Rattle.rdm_bus.specs.BusLaws.{BusLawsHold};
+ghost use Rattle.rdm_bus.specs.DeviceCollectors.{DeviceCollectorLawsHold, RecordingARepeatTwiceIsRuledOut, SkippingALostOneIsRuledOut};
 ghost use Rattle.rdm_bus.specs.Headline.{HeadlineHolds, TwiceIsRuledOut, LaterFirstIsRuledOut, AnsweringTheUnheardIsRuledOut, AfterTheCloseIsRuledOut, SkippingIsRuledOut, RecordingNothingIsRuledOut, RecordingTwiceIsRuledOut, DroppingAnEqualOneIsRuledOut, BookingNoPollIsRuledOut, AnotherMessageIsRuledOut};
 ghost use Rattle.rdm_bus.specs.Hearing.{CommandSendingHolds, HearingHolds};
 ghost use Rattle.rdm_bus.specs.Messages.{KeepingHolds};
@@ -18,6 +19,23 @@ pub fn bus_recording_laws_hold()
 {
     two_commands_fetch();
 }
+
+/// A `DeviceCollector` of rdm_collector in the place of the bus's controller sends what the controller sends, and records the messages
+/// that the controller records, each as often. So both recording laws hold of them: with equal neighbours joined, they are a prefix of
+/// what the device dispensed, joined likewise, at most one message shorter; and none that was given is missing but the last at most.
+/// Nothing is missing if the last poll is answered. So it is from every history of the device, whichever requests and replies are lost
+/// or altered (E1.20 section 10.3.1).
+pub fn device_collector_laws_hold()
+    ensures { DeviceCollectorLawsHold }
+{
+    two_commands_fetch();
+}
+
+/// What these laws rule out: a collector that records a repeat twice, and one that skips a message that was lost.
+pub fn device_collector_laws_rule_out()
+    ensures recording_a_repeat_twice { RecordingARepeatTwiceIsRuledOut }
+    ensures skipping_a_lost_one { SkippingALostOneIsRuledOut }
+{}
 
 /// The headline holds of every run of the bus, after whatever has lawfully happened to the device.
 pub fn headline_holds()

@@ -16,9 +16,10 @@ mod system;
 
 pub use event::{Event, Step, StepRef};
 pub use laws::{
-    answers_are_heard, bus_recording_laws_hold, commands_are_sent, headline_holds,
-    headline_rules_out, jobs_are_numbered, messages_are_kept, play_errors_are_equal_by_value,
-    polls_ask_in_turn, transactions_are_numbered, wrong_devices_break_the_prefix_law,
+    answers_are_heard, bus_recording_laws_hold, commands_are_sent, device_collector_laws_hold,
+    device_collector_laws_rule_out, headline_holds, headline_rules_out, jobs_are_numbered,
+    messages_are_kept, play_errors_are_equal_by_value, polls_ask_in_turn,
+    transactions_are_numbered, wrong_devices_break_the_prefix_law,
 };
 pub use rdm_collector::{
     Action, AskError, Collector, Command, Heard, PollError, Want, actions_are_equal_by_value,

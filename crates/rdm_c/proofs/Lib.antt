@@ -1,5 +1,5 @@
 pub mod Emptied
 pub mod Frees
 pub mod Many
-pub mod Polls
 pub mod Values
+pub mod Receivers

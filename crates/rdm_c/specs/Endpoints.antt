@@ -18,19 +18,17 @@ use Rattle.rdm_saved.specs.SavedText.{saved_text}
 use Rattle.rdm_c.specs.declared.endpoint.Endpoint.{Endpoint}
 use Rattle.rdm_c.specs.declared.job.JobNumbers.{JobNumbers}
 use Rattle.rdm_c.specs.Jobs.{IsAsTold}
-use Rattle.rdm_c.specs.declared.endpoint.Endpoint.TheVariants.{Responder, Collector, DeviceCollector, Searcher}
+use Rattle.rdm_c.specs.declared.endpoint.Endpoint.TheVariants.{Responder, Collector, Searcher}
 use Rattle.rdm_c.specs.declared.status.Status.{Status}
 use Rattle.rdm_c.specs.declared.status.Status.TheVariants as status
 use Rattle.rdm_c.specs.Statuses.{code_of}
 use Rattle.rdm_collector.specs.AnyDevice.Collecting.{DeviceState}
-use Rattle.rdm_c.specs.CollectorStates.{CollectorState}
 use Rattle.rdm_c.specs.SearchStates.{SearchState}
 
 -- It is a responder, and stands for this history.
 abbrev pub IsFor : Endpoint → History → Type 0
 IsFor (Responder running) h = StandsFor running.responder h
 IsFor (Collector collector) h = ⊥
-IsFor (DeviceCollector collector) h = ⊥
 IsFor (Searcher search) h = ⊥
 
 -- the handle holds a responder that stands for this history
@@ -38,22 +36,9 @@ abbrev pub HeldFor : Option Endpoint → History → Type 0
 HeldFor None h = ⊥
 HeldFor (Some endpoint) h = IsFor endpoint h
 
--- It is a collector in this state.
-abbrev pub IsIn : Endpoint → CollectorState → Type 0
-IsIn (Responder running) s = ⊥
-IsIn (Collector collector) s = collector ≡ s
-IsIn (DeviceCollector collector) s = ⊥
-IsIn (Searcher search) s = ⊥
-
--- the handle holds a collector in this state
-abbrev pub HeldIn : Option Endpoint → CollectorState → Type 0
-HeldIn None s = ⊥
-HeldIn (Some endpoint) s = IsIn endpoint s
-
 abbrev pub is_responder : Endpoint → Bool
 is_responder (Responder running) = true
 is_responder (Collector collector) = false
-is_responder (DeviceCollector collector) = false
 is_responder (Searcher search) = false
 
 -- whether the handle holds a responder
@@ -61,34 +46,21 @@ abbrev pub holds_responder : Option Endpoint → Bool
 holds_responder None = false
 holds_responder (Some endpoint) = is_responder endpoint
 
-abbrev pub is_collector : Endpoint → Bool
-is_collector (Responder running) = false
-is_collector (Collector collector) = true
-is_collector (DeviceCollector collector) = false
-is_collector (Searcher search) = false
+-- the collector, if it is one
+abbrev pub collector_of : Endpoint → Option DeviceState
+collector_of (Responder running) = None
+collector_of (Collector collector) = Some collector
+collector_of (Searcher search) = None
 
--- whether the handle holds a collector
-abbrev pub holds_collector : Option Endpoint → Bool
-holds_collector None = false
-holds_collector (Some endpoint) = is_collector endpoint
-
--- the collector for any device, if it is one
-abbrev pub device_collector_of : Endpoint → Option DeviceState
-device_collector_of (Responder running) = None
-device_collector_of (Collector collector) = None
-device_collector_of (DeviceCollector collector) = Some collector
-device_collector_of (Searcher search) = None
-
--- the collector for any device that the handle holds, if it holds one
-abbrev pub held_device_collector : Option Endpoint → Option DeviceState
-held_device_collector None = None
-held_device_collector (Some endpoint) = device_collector_of endpoint
+-- the collector that the handle holds, if it holds one
+abbrev pub held_collector : Option Endpoint → Option DeviceState
+held_collector None = None
+held_collector (Some endpoint) = collector_of endpoint
 
 -- the search, if it is one
 abbrev pub search_of : Endpoint → Option SearchState
 search_of (Responder running) = None
 search_of (Collector collector) = None
-search_of (DeviceCollector collector) = None
 search_of (Searcher search) = Some search
 
 -- the search that the handle holds, if it holds one

@@ -8,14 +8,13 @@ pub mod Outcomes
 pub mod Texts
 pub mod Parameters
 pub mod Profiles
-pub mod CollectorStates
-pub mod Collecteds
 pub mod Endpoints
 pub mod Memory
 pub mod Messages
 pub mod SearchStates
 pub mod Searches
 pub mod Names
+pub mod Receivers
 pub mod Replies
 pub mod Requests
 pub mod Faults

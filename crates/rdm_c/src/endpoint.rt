@@ -1,13 +1,11 @@
 //! What stands behind a handle, and what it does for C.
 
 pub(crate) mod collector;
-pub(crate) mod device_collector;
 pub(crate) mod firmware;
 pub(crate) mod responder;
 pub(crate) mod saving;
 pub(crate) mod search;
 
-use crate::running_collector::RunningCollector;
 use crate::running_search::RunningSearch;
 use rdm_collector::DeviceCollector;
 use rdm_frame::Wire;
@@ -27,10 +25,8 @@ pub struct RunningResponder {
 pub enum Endpoint {
     /// A device on the bus.
     Responder(RunningResponder),
-    /// A controller that collects the messages of a device.
-    Collector(RunningCollector),
     /// A controller that collects the messages of a device, whatever response types its answers have.
-    DeviceCollector(DeviceCollector),
+    Collector(DeviceCollector),
     /// A controller that finds the fixtures of its line.
     Searcher(RunningSearch),
 }

@@ -2,13 +2,13 @@
 
 pub(crate) mod change;
 pub(crate) mod collector;
-pub(crate) mod device_collector;
 pub(crate) mod firmware;
 pub(crate) mod frame;
 pub(crate) mod memory;
 pub(crate) mod names;
 pub(crate) mod profile;
 pub(crate) mod reading;
+pub(crate) mod receiver;
 pub(crate) mod reply;
 pub(crate) mod responder;
 pub(crate) mod saving;

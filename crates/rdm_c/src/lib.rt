@@ -6,10 +6,10 @@
 //! to be freed, or the bytes that `felosumay_responder_save` writes (`specs/Places.antt`). What a call only reads is a slice, in C a
 //! pointer and a length. It is never NULL, even if it is empty: C calls an export whose name ends in `_nonnull` by an inline function of
 //! the header without that ending, which sees to it. What a handle owns stands in `specs/Held.antt`.
+//! A receiver is no handle: it is a plain struct of C's, which holds all of it (`specs/Receivers.antt`).
 //! The calls of C stand in `exports/`; what each does to what the handle holds, in the file of the same name in `endpoint/`.
 #![tactic(auto)]
 
-mod collected;
 mod endpoint;
 mod exports;
 mod found;
@@ -25,12 +25,10 @@ mod outcome;
 mod profile;
 mod raw_box;
 mod reply;
-mod running_collector;
 mod running_search;
 mod sizes;
 mod status;
 
-pub use collected::{CollectedNumbers, HeardNumbers};
 pub use exports::change::{
     felosumay_responder_change_label_nonnull, felosumay_responder_change_personality,
     felosumay_responder_change_start,
@@ -39,12 +37,6 @@ pub use exports::collector::{
     felosumay_collector_ask_nonnull, felosumay_collector_free, felosumay_collector_hear_nonnull,
     felosumay_collector_new, felosumay_collector_next, felosumay_collector_over,
     felosumay_collector_poll,
-};
-pub use exports::device_collector::{
-    felosumay_device_collector_ask_nonnull, felosumay_device_collector_free,
-    felosumay_device_collector_hear_nonnull, felosumay_device_collector_new,
-    felosumay_device_collector_next, felosumay_device_collector_over,
-    felosumay_device_collector_poll,
 };
 pub use exports::firmware::{felosumay_responder_note, felosumay_responder_place_nonnull};
 pub use exports::frame::felosumay_frame_fault_nonnull;
@@ -56,6 +48,9 @@ pub use exports::profile::felosumay_profile_fault_nonnull;
 pub use exports::reading::{
     felosumay_responder_get_nonnull, felosumay_responder_outstanding,
     felosumay_responder_own_value, felosumay_responder_room, felosumay_responder_waiting,
+};
+pub use exports::receiver::{
+    felosumay_receiver_break, felosumay_receiver_byte, felosumay_receiver_error,
 };
 pub use exports::reply::felosumay_reply_read_nonnull;
 pub use exports::responder::{
@@ -73,7 +68,7 @@ pub use exports::search::{
 pub use found::FoundNumbers;
 pub use handle::Handle;
 pub use job::{JobNumbers, SteppedNumbers};
-pub use message::{CommandNumbers, MessageNumbers};
+pub use message::{CommandNumbers, HeardNumbers, MessageNumbers};
 pub use names::NameNumbers;
 pub use outcome::OutcomeNumbers;
 pub use profile::parameters::ParameterNumbers;

@@ -1,16 +1,15 @@
 //! What a collector takes and gives, as numbers.
 
-ghost use Rattle.std.specs.Prelude.{◌≡◌, ◌≤◌, length, take};
-ghost use Rattle.rdm_c.specs.Endpoints.{flag};
-ghost use Rattle.rdm_c.specs.Messages.{want_in, action_in, command_in, heard_code, message_in};
+ghost use Rattle.std.specs.Prelude.{◌≡◌, ◌≤◌, take};
+ghost use Rattle.rdm_c.specs.Messages.{Tells, action_in, command_in, heard_numbers, heard_with, want_in};
 
 use crate::front::write_front;
-use rdm_collector::{Action, Command, Heard, Want};
+use crate::reply::numbers_of;
+use rdm_collector::{Action, Collected, Command, DeviceHeard, Want};
 use rdm_frame::standard::{
     ADVISORY, DISCOVERY_COMMAND, ERROR, GET_COMMAND, MOST_DATA, SET_COMMAND, WARNING,
 };
 use rdm_frame::{Load, Uid};
-use rdm_params::Message;
 
 /// The most bytes of data that are read of a command.
 const MOST_READ: usize = 255;
@@ -31,7 +30,19 @@ pub struct CommandNumbers {
     pub command_class: u8,
 }
 
-/// A message that was recorded. The header calls it `felosumay_message`.
+/// What a collector took bytes for. The header calls it `felosumay_heard`.
+#[repr(C)]
+#[derive(Clone, Copy)]
+pub struct HeardNumbers {
+    /// The reason if the device rejects the poll (E1.20 table A-17), else 0.
+    pub reason: u16,
+    /// In how many tenths of a second the device can answer the poll (section 6.3.3), if it can't yet, else 0.
+    pub tenths: u16,
+    /// What the bytes were taken for, as the header numbers it.
+    pub kind: u8,
+}
+
+/// A message that was recorded, or a part of one. The header calls it `felosumay_message`.
 #[repr(C)]
 #[derive(Clone, Copy)]
 pub struct MessageNumbers {
@@ -41,11 +52,19 @@ pub struct MessageNumbers {
     pub pid: u16,
     /// The sub-device, or 0 for the root.
     pub sub: u16,
+    /// The reason of a NACK_REASON (table A-17), else 0.
+    pub reason: u16,
+    /// The estimate of an ACK_TIMER in tenths of a second (section 6.3.3), else 0.
+    pub tenths: u16,
+    /// The response type (table A-2).
+    pub kind: u8,
     /// The command class of the response (table A-1).
     pub command_class: u8,
-    /// 1 if it was asked for again (STATUS_GET_LAST_MESSAGE, table A-4), so that it may be the message before it once more; else
-    /// 0.
+    /// 1 if it was asked for again (STATUS_GET_LAST_MESSAGE, table A-4), so that it may be what was recorded before it once
+    /// more; else 0.
     pub may_repeat: u8,
+    /// 1 if a poll has no answer, of those since something was recorded before it, so that something may be missing here; else 0.
+    pub after_loss: u8,
     /// The parameter data at the front.
     pub bytes: [u8; MOST_DATA],
 }
@@ -69,18 +88,49 @@ impl CommandNumbers {
     }
 }
 
-impl MessageNumbers {
-    /// Tells of a message, and whether it was asked for again.
-    pub(crate) fn tell(&mut self, message: &Message, again: bool)
-        ensures message { message_in self.new ≡ message.now }
-        ensures count { self.new.count ≡ length message.now.body }
-        ensures repeat { self.new.may_repeat ≡ flag again }
+impl HeardNumbers {
+    /// The numbers of what bytes were taken for.
+    pub(crate) fn of(heard: DeviceHeard) -> HeardNumbers
+        ensures { result ≡ heard_numbers heard }
     {
-        self.count = write_front(message.body.as_slice(), &mut self.bytes);
-        self.pid = message.pid;
-        self.sub = message.sub;
-        self.command_class = message.class;
-        self.may_repeat = if again { 1 } else { 0 };
+        match heard {
+            DeviceHeard::Ignored => HeardNumbers::with(0, 0, 0),
+            DeviceHeard::Message => HeardNumbers::with(1, 0, 0),
+            DeviceHeard::Reply => HeardNumbers::with(2, 0, 0),
+            DeviceHeard::Part => HeardNumbers::with(3, 0, 0),
+            DeviceHeard::Unsupported => HeardNumbers::with(4, 0, 0),
+            DeviceHeard::Refused { reason } => HeardNumbers::with(5, reason, 0),
+            DeviceHeard::NotYet { tenths } => HeardNumbers::with(6, 0, tenths),
+        }
+    }
+
+    /// These numbers.
+    fn with(kind: u8, reason: u16, tenths: u16) -> HeardNumbers
+        ensures { result ≡ heard_with kind reason tenths }
+    {
+        HeardNumbers {
+            reason,
+            tenths,
+            kind,
+        }
+    }
+}
+
+impl MessageNumbers {
+    /// Tells of what was collected.
+    pub(crate) fn tell(&mut self, collected: &Collected)
+        ensures { Tells self.new collected.now }
+    {
+        self.count = write_front(collected.message.body.as_slice(), &mut self.bytes);
+        self.pid = collected.message.pid;
+        self.sub = collected.message.sub;
+        self.command_class = collected.message.class;
+        self.may_repeat = if collected.again { 1 } else { 0 };
+        self.after_loss = if collected.after_loss { 1 } else { 0 };
+        let (kind, reason, tenths) = numbers_of(collected.response);
+        self.kind = kind;
+        self.reason = reason;
+        self.tenths = tenths;
     }
 }
 
@@ -113,16 +163,5 @@ fn action_in(command_class: u8) -> Option<Action>
         GET_COMMAND => Some(Action::Get),
         SET_COMMAND => Some(Action::Set),
         _ => None,
-    }
-}
-
-/// The number of what bytes were taken for.
-pub(crate) fn heard_code(heard: Heard) -> u8
-    ensures { result ≡ heard_code heard }
-{
-    match heard {
-        Heard::Ignored => 0,
-        Heard::Message => 1,
-        Heard::Reply => 2,
     }
 }

@@ -1,10 +1,9 @@
 //! How many bytes the structs have that C hands in and out. `c/sizes.c` says the same of those in the header.
 
-use crate::collected::{CollectedNumbers, HeardNumbers};
 use crate::found::FoundNumbers;
 use crate::handle::Handle;
 use crate::job::{JobNumbers, SteppedNumbers};
-use crate::message::{CommandNumbers, MessageNumbers};
+use crate::message::{CommandNumbers, HeardNumbers, MessageNumbers};
 use crate::names::NameNumbers;
 use crate::outcome::OutcomeNumbers;
 use crate::profile::parameters::{ChoiceNumbers, FieldNumbers, LockNumbers, ParameterNumbers};
@@ -14,6 +13,7 @@ use crate::profile::{
     StatusTextNumbers, TextNumbers, UnitNumbers,
 };
 use crate::reply::ReplyNumbers;
+use rdm_receiver::Receiver;
 use std::mem::size_of;
 
 const _: () = prove!(size_of::<Handle>() == 8);
@@ -54,14 +54,14 @@ const _: () = prove!(size_of::<OutcomeNumbers>() == 10);
 
 const _: () = prove!(size_of::<CommandNumbers>() == 12);
 
-const _: () = prove!(size_of::<MessageNumbers>() == 248);
-
 const _: () = prove!(size_of::<HeardNumbers>() == 6);
 
-const _: () = prove!(size_of::<CollectedNumbers>() == 256);
+const _: () = prove!(size_of::<MessageNumbers>() == 256);
 
 const _: () = prove!(size_of::<FoundNumbers>() == 16);
 
 const _: () = prove!(size_of::<NameNumbers>() == 16);
 
 const _: () = prove!(size_of::<ReplyNumbers>() == 256);
+
+const _: () = prove!(size_of::<Receiver>() == 260);

@@ -5,7 +5,7 @@ ghost use Rattle.std.specs.Result.{result_err};
 ghost use Rattle.rdm_frame.specs.FrameText.{frame_text, IsFrame};
 ghost use Rattle.rdm_collector.specs.Collecting.{new_collector, refusal_of, poll_request, command_request, after_ask, after_poll, heard_in, after_hearing, without_transaction};
 
-use crate::command::Command;
+use crate::command::{Command, queued_message, request_of};
 use crate::message::message_of;
 use crate::record::{forget, make_room};
 use crate::sender::{AskError, PollError, Sender};
@@ -59,7 +59,9 @@ impl Collector {
         ensures new { OnOk result (self.new ≡ after_ask self.old command.now) }
         ensures err { OnErr result (self.new ≡ self.old) }
     {
-        self.sender.ask(command)
+        let tn = self.sender.open_command(command)?;
+        let (uid, _) = self.sender.uids();
+        Ok(request_of(uid, tn, command))
     }
 
     /// Sends a poll: gives the bytes of a request for the target's next message, and opens its transaction. If the
@@ -75,7 +77,9 @@ impl Collector {
         ensures err { OnErr result (self.new ≡ self.old) }
     {
         make_room(&mut self.recorded, self.sender.is_open())?;
-        self.sender.poll()
+        let (tn, status_type) = self.sender.open_poll()?;
+        let (uid, target) = self.sender.uids();
+        Ok(request_of(uid, tn, &queued_message(target, status_type)))
     }
 
     /// Hears bytes, and says what they are taken for. A frame from the target to this collector in the open

@@ -93,24 +93,8 @@ impl Sender {
         ensures new { OnOk result (self.new ≡ after_ask self.old command.now) }
         ensures err { OnErr result (self.new ≡ self.old) }
     {
-        if is_reserved(command.pid) {
-            return Err(AskError::Reserved);
-        }
-        if self.transaction.is_some() {
-            return Err(AskError::Busy);
-        }
-        if command.load.as_slice().len() > MOST_DATA {
-            return Err(AskError::TooLong);
-        }
-        let sent = request_of(self.uid, self.tn, command);
-        self.transaction = Some(Transaction::Command {
-            tn: self.tn,
-            class: class_of(command.action),
-            sub: command.sub,
-            pid: command.pid,
-        });
-        self.tn = self.tn.wrapping_add(1);
-        Ok(sent)
+        let tn = self.open_command(command)?;
+        Ok(request_of(self.uid, tn, command))
     }
 
     /// Sends a poll: gives the bytes of a request for the target's next message, and opens its transaction. If the last poll
@@ -125,15 +109,54 @@ impl Sender {
         ensures new { OnOk result (self.new ≡ after_poll self.old) }
         ensures err { OnErr result (self.new ≡ self.old) }
     {
+        let (tn, status_type) = self.open_poll()?;
+        Ok(request_of(self.uid, tn, &queued_message(self.target, status_type)))
+    }
+
+    /// Opens the transaction of a user's command, and gives its transaction number. A collector writes the request itself, so that
+    /// a request is copied once.
+    pub(crate) fn open_command(&mut self, command: &Command) -> Result<u8, AskError>
+        ensures refused { result_err result ≡ refusal_of self.old command.now }
+        ensures fits { OnOk result (length command.now.load ≤ 231) }
+        ensures tn { IfOk result (λ tn. tn ≡ self.old.tn) }
+        ensures new { OnOk result (self.new ≡ after_ask self.old command.now) }
+        ensures err { OnErr result (self.new ≡ self.old) }
+    {
+        if is_reserved(command.pid) {
+            return Err(AskError::Reserved);
+        }
+        if self.transaction.is_some() {
+            return Err(AskError::Busy);
+        }
+        if command.load.as_slice().len() > MOST_DATA {
+            return Err(AskError::TooLong);
+        }
+        let tn = self.tn;
+        self.transaction = Some(Transaction::Command {
+            tn,
+            class: class_of(command.action),
+            sub: command.sub,
+            pid: command.pid,
+        });
+        self.tn = tn.wrapping_add(1);
+        Ok(tn)
+    }
+
+    /// Opens the transaction of a poll, and gives its transaction number and the status type that it asks for.
+    pub(crate) fn open_poll(&mut self) -> Result<(u8, u8), PollError>
+        ensures refused { result_err result ≡ poll_refusal self.old }
+        ensures poll { IfOk result (λ poll. poll ≡ (self.old.tn, poll_type self.old)) }
+        ensures new { OnOk result (self.new ≡ after_poll self.old) }
+        ensures err { OnErr result (self.new ≡ self.old) }
+    {
         if self.transaction.is_some() {
             return Err(PollError::Busy);
         }
-        let status_type = self.poll_type();
-        let sent = request_of(self.uid, self.tn, &queued_message(self.target, status_type));
-        self.transaction = Some(Transaction::Poll { tn: self.tn });
-        self.tn = self.tn.wrapping_add(1);
+        let (tn, status_type) = (self.tn, self.poll_type());
+        self.transaction = Some(Transaction::Poll { tn });
+        self.tn = tn.wrapping_add(1);
         self.unanswered = true;
-        Ok(sent)
+        Ok((tn, status_type))
     }
 
     /// The frame that the bytes are the text of, if it goes from the target to this sender.
@@ -173,6 +196,13 @@ impl Sender {
         ensures { result ≡ self.now.unanswered }
     {
         self.unanswered
+    }
+
+    /// The UID of the sender, and that of its target.
+    pub(crate) fn uids(&self) -> (Uid, Uid)
+        ensures { result ≡ (self.now.uid, self.now.target) }
+    {
+        (self.uid, self.target)
     }
 
     /// The open transaction.

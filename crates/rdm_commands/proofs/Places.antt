@@ -1,5 +1,5 @@
 -- Which devices a command addresses.
-use Rattle.std.proofs.Common.{arith, ◌≡◌, ℕ, ◌-◌, ◌≢◌, ◌<◌, ◌≤◌, ◌==◌, Bool, true, false, List, [], length, map, Option, Some, None, refl, sym, ap, ◌∙◌}
+use Rattle.std.proofs.Common.{arith, ◌≡◌, ℕ, ◌-◌, ◌≢◌, ◌<◌, ◌≤◌, ◌==◌, Bool, true, false, List, [], length, map, get_or, Option, Some, None, refl, sym, ap, ◌∙◌}
 use Rattle.std.specs.Prelude.{slice_get, option_to_list}
 use Rattle.std.specs.Option.{option_map}
 use Rattle.std.proofs.lemmas.Bool.{ne_eqb, true≢false}
@@ -26,6 +26,13 @@ first_of_one p sub verb n one = rw (ne_eqb sub 0 n, one) (first_of (sub_spot p) 
 
 pub first_of_subs : (p : Parameters) (sub : ℕ) (verb : Verb) → sub ≢ 0 → is_all_call sub verb ≡ true → slice_get (addressed p sub verb) 0 ≡ option_map (sub_spot p) (slice_get p.subs 0)
 first_of_subs p sub verb n all = rw (ne_eqb sub 0 n, all) (slice_get-map (sub_spot p) p.subs 0)
+
+-- a sub-device that there is
+pub one_there : (p : Parameters) (subs : List CommonValues) (sub : ℕ) (common : CommonValues) → p.subs ≡ map common_entries subs → sub ≢ 0 → sub ≤ length subs → common ≡ get_or subs (sub - 1) common → slice_get (addressed p sub Get) 0 ≡ Some (sub_spot p (common_entries common))
+one_there p subs sub common viewed n fits here =
+    let within : sub - 1 < length subs = omega (arith, n, fits) in
+    let there : slice_get subs (sub - 1) ≡ Some common = slice_get-get_or subs (sub - 1) common within ∙ ap (λ (d : CommonValues). Some d) (sym here) in
+    rw (first_of_one p sub Get n refl, viewed, slice_get-map common_entries subs (sub - 1), there) refl
 
 there_at : (p : Parameters) (sub : ℕ) (zero : Bool) → (sub == 0) ≡ zero → sub ≤ length p.subs → is_some_device (addressed p sub Get) ≡ true
 there_at p sub true e fits = rw e refl

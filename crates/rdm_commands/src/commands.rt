@@ -222,9 +222,7 @@ impl Devices {
         if found.is_plain_get() {
             return self.get_plain(sub, found.kind, data, body);
         }
-        let place = self
-            .first_place(sub, Verb::Get)
-            .ok_or(Nack::SubDeviceOutOfRange)?;
+        let place = self.place_of(sub);
         let value = read_form(Verb::Get, found, data)?;
         if !is_taken_at(Verb::Get, found, &place, &value) {
             return Err(Nack::DataOutOfRange);
@@ -332,7 +330,7 @@ impl Devices {
                 &mut self.root,
             );
             let own = store_own(kind, value, profile, &mut self.own);
-            let added = store_added(kind, value, profile, &mut self.own);
+            let added = store_added(kind, profile, &mut self.own);
             common || own || added
         } else if sub == SUB_DEVICE_ALL_CALL {
             store_each(kind, value, profile, &mut self.subs)

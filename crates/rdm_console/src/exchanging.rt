@@ -3,7 +3,7 @@
 ghost use Rattle.std.specs.Prelude.{◌≡◌, ◌↔◌, Some, None, Err, IsSome, IfOk, IfErr};
 ghost use Rattle.rdm_collector.specs.Sending.{refusal_of};
 ghost use Rattle.rdm_collector.specs.AnyDevice.Collecting.{sender};
-ghost use Rattle.rdm_console.specs.Exchanges.{FailsAsking, HasFailedOnce, HasGoneWrong, IsAnswered, IsAskedAgain, IsSentOnce, reply_as, turn};
+ghost use Rattle.rdm_console.specs.Exchanges.{FailsAsking, HasFailedOnce, HasGoneWrong, IsAnswered, IsAskedAgain, IsHeard, IsSentOnce, reply_as, turn};
 
 use crate::{Came, Mailbox};
 use rdm_collector::{AskError, Command, PollError, Port, PortError, Wire};
@@ -100,15 +100,9 @@ pub fn ask_once<P: Port>(
         Ok(wire) => wire,
         Err(error) => return Err(AskFault::Ask(error)),
     };
-    match port.exchange(&wire) {
-        Ok(heard) => {
-            let came = mailbox.hear(&heard);
-            Ok((came, heard))
-        }
-        Err(error) => {
-            mailbox.hear(&None);
-            Err(AskFault::Port(error))
-        }
+    match exchange_once(mailbox, port, &wire) {
+        Ok(came) => Ok(came),
+        Err(error) => Err(AskFault::Port(error)),
     }
 }
 
@@ -129,14 +123,32 @@ pub fn poll_once<P: Port>(
         Ok(wire) => wire,
         Err(error) => return Err(PollFault::Poll(error)),
     };
-    match port.exchange(&wire) {
+    match exchange_once(mailbox, port, &wire) {
+        Ok(came) => Ok(came),
+        Err(error) => Err(PollFault::Port(error)),
+    }
+}
+
+/// Sends the bytes of a request for whose answer the mailbox waits. Gives what came of it, and what was heard. If the port fails, the
+/// mailbox hears nothing.
+fn exchange_once<P: Port>(
+    mailbox: &mut Mailbox,
+    port: &mut P,
+    request: &Wire,
+) -> Result<(Came, Option<Wire>), PortError>
+    ensures sent { IfOk result (λ x. P.hears port.old request.now x.1 port.new
+        × IsHeard mailbox.old mailbox.new mailbox.old.collector x.1 x.0) }
+    ensures failed { IfErr result (λ error. P.fails port.old request.now error port.new
+        × (said : Came) × IsHeard mailbox.old mailbox.new mailbox.old.collector None said) }
+{
+    match port.exchange(request) {
         Ok(heard) => {
             let came = mailbox.hear(&heard);
             Ok((came, heard))
         }
         Err(error) => {
             mailbox.hear(&None);
-            Err(PollFault::Port(error))
+            Err(error)
         }
     }
 }

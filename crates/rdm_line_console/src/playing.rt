@@ -15,7 +15,7 @@ use rdm_frame::standard::DISC_MUTE;
 use rdm_host::fault::Fault;
 use rdm_host::host::Host;
 use rdm_host::source::{Source, without_mark};
-use rdm_script::{Dialect, MOST_BYTES, Script, Spelling, parse_as};
+use rdm_script::{Dialect, Finds, MOST_BYTES, Script, Spelling, parse_as};
 use rdm_trace::Line;
 use std::io::Write;
 
@@ -76,27 +76,25 @@ fn stop_of(script: &Script) -> Option<(Option<usize>, RunError)> {
     None
 }
 
-/// Whether a script says a search, whose steps are on one line.
-fn has_search(script: &Script) -> bool {
-    let mut before = 0;
-    for line in &script.lines {
-        if *line == before {
-            return true;
-        }
-        before = *line;
-    }
-    false
-}
-
 /// A script that is being played.
 #[derive(Drop)]
 struct Playing {
     uid: Uid,
     collector: DeviceCollector,
     /// Whether it is told who is found.
-    tells_finds: bool,
+    finds: Finds,
     /// The times that the device has estimated since the last settle, one behind the other, in tenths of a second.
     tenths: u16,
+}
+
+impl Playing {
+    /// Whether it is told who answers this command that it is found.
+    fn tells_find(&self, command: &Command) -> bool {
+        match self.finds {
+            Finds::Told => is_mute(command),
+            Finds::Untold => false,
+        }
+    }
 }
 
 impl<'a, H: Host, P: Port, F: Write> Console<'a, H, P, F> {
@@ -114,7 +112,7 @@ impl<'a, H: Host, P: Port, F: Write> Console<'a, H, P, F> {
         let mut playing = Playing {
             uid: *uid,
             collector: DeviceCollector::new(alloc, CONSOLE, *uid, script.setup.want),
-            tells_finds: has_search(script),
+            finds: script.finds,
             tenths: 0,
         };
         self.play_all(&mut playing, script)
@@ -162,7 +160,7 @@ impl<'a, H: Host, P: Port, F: Write> Console<'a, H, P, F> {
                 playing.tenths = playing.tenths.saturating_add(tenths);
                 Ok(())
             }
-            Some(Response::Ack) if playing.tells_finds && is_mute(command) => {
+            Some(Response::Ack) if playing.tells_find(command) => {
                 Ok(self.port.keep(Line::Found(command.dst))?)
             }
             _ => Ok(()),

@@ -4,6 +4,7 @@ ghost use Rattle.std.specs.Prelude.{◌≡◌, ◌<◌, None, IfSome};
 ghost use Rattle.std.specs.Int.{w16, to_be_bytes};
 ghost use Rattle.std.specs.Bool.{OnFalse};
 ghost use Rattle.rdm_frame.specs.declared.frame.Frame.{Frame};
+ghost use Rattle.rdm_frame.specs.Addressing.{is_broadcast};
 ghost use Rattle.rdm_frame.specs.Nacks.{nack_code};
 ghost use Rattle.rdm_profile.specs.declared.profile.Profile.{Profile};
 ghost use Rattle.rdm_outbox.specs.Account.{Account};
@@ -24,19 +25,21 @@ use rdm_outbox::Outbox;
 use rdm_params::{Answer, Nack, Work};
 
 /// Carries out what a GET or a SET came to, a reply's data being in `body`: the job starts, the message leaves the queue, the
-/// entries are cleared, and the bytes of the response are written. If there is none, `wire` stays as it was.
+/// entries are cleared, and the bytes of the response are written, unless the request is for many devices. If there is none, `wire` stays as it was.
 // Inlined, with all that it calls here: so the request needs no place in memory, and neither does the job.
 #[inline(always)]
 pub(crate) fn carry_out(
     own: Uid,
     bytes: &[u8],
     request: &FrameView<'_>,
+    many: bool,
     answer: Answer,
     body: &mut Body,
     outbox: &mut Outbox,
     wire: &mut Wire,
 ) -> Stepped
     requires from { IsFrom bytes.now request.now }
+    requires many { many ≡ is_broadcast request.now.dst }
     requires class { request.now.class < 255 }
     requires job { (p : Profile) × (p.workers ≡ outbox.old.workers) × NamesItsJob p answer }
     ensures reply { (p : Profile) (b : Account) → NamesItsJob p answer → Shows outbox.old b →
@@ -57,6 +60,7 @@ pub(crate) fn carry_out(
                 own,
                 bytes,
                 request,
+                many,
                 heading,
                 body.as_slice(),
                 outbox.count(),
@@ -74,6 +78,7 @@ pub(crate) fn carry_out(
                 own,
                 bytes,
                 request,
+                many,
                 heading,
                 body.as_slice(),
                 outbox.count(),
@@ -82,16 +87,25 @@ pub(crate) fn carry_out(
         }
         Answer::Queues(ask) => {
             outbox.answer(ask);
-            send_last(own, bytes, request, outbox, wire)
+            send_last(own, bytes, request, many, outbox, wire)
         }
         Answer::Statuses(ask) => {
             outbox.answer_status(ask);
-            send_last(own, bytes, request, outbox, wire)
+            send_last(own, bytes, request, many, outbox, wire)
         }
         Answer::Clears => {
             outbox.clear_status();
             let heading = Heading::of_own(request, ACK);
-            send(own, bytes, request, heading, &[], outbox.count(), wire)
+            send(
+                own,
+                bytes,
+                request,
+                many,
+                heading,
+                &[],
+                outbox.count(),
+                wire,
+            )
         }
         Answer::Refused(nack) => {
             refuse(nack, body);
@@ -100,6 +114,7 @@ pub(crate) fn carry_out(
                 own,
                 bytes,
                 request,
+                many,
                 heading,
                 body.as_slice(),
                 outbox.count(),

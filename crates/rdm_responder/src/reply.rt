@@ -2,6 +2,7 @@
 
 ghost use Rattle.std.specs.Prelude.{◌≡◌, ◌<◌, ◌≤◌, length};
 ghost use Rattle.std.specs.Bool.{OnFalse};
+ghost use Rattle.rdm_frame.specs.Addressing.{is_broadcast};
 ghost use Rattle.rdm_outbox.specs.Account.{Account};
 ghost use Rattle.rdm_outbox.specs.Shows.{Shows};
 ghost use Rattle.rdm_responder.specs.Headings.{response_with, own_heading, message_heading};
@@ -56,10 +57,12 @@ pub(crate) fn send_last(
     own: Uid,
     bytes: &[u8],
     request: &FrameView<'_>,
+    many: bool,
     outbox: &Outbox,
     wire: &mut Wire,
 ) -> bool
-    requires { IsFrom bytes.now request.now }
+    requires from { IsFrom bytes.now request.now }
+    requires many { many ≡ is_broadcast request.now.dst }
     ensures reply { (b : Account) → Shows outbox.now b →
         answered result wire.new ≡ answer_with own request.now (message_count b) (ack_message outbox.now.last) }
     ensures silent { OnFalse result (wire.new ≡ wire.old) }
@@ -70,6 +73,7 @@ pub(crate) fn send_last(
         own,
         bytes,
         request,
+        many,
         heading,
         message.body.as_slice(),
         outbox.count(),
@@ -87,17 +91,19 @@ pub(crate) fn send(
     own: Uid,
     bytes: &[u8],
     request: &FrameView<'_>,
+    many: bool,
     heading: Heading,
     data: &[u8],
     count: u8,
     wire: &mut Wire,
 ) -> bool
     requires from { IsFrom bytes.now request.now }
+    requires many { many ≡ is_broadcast request.now.dst }
     requires fits { length data.now ≤ 231 }
     ensures reply { answered result wire.new ≡ answer_with own request.now count (response_with heading data.now) }
     ensures silent { OnFalse result (wire.new ≡ wire.old) }
 {
-    if request.dst.is_broadcast() {
+    if many {
         return false;
     }
     let response = FrameView {

@@ -5,6 +5,10 @@ use Rattle.std.specs.Io.KnownBytes.{Appends, Consumes, IsAtEnd}
 use Rattle.rdm_script.specs.declared.grammar.parsing.ScriptError.TheVariants as script
 use Rattle.rdm_script.specs.declared.program.ProgramError.{ProgramError}
 use Rattle.rdm_script.specs.declared.program.ProgramError.TheVariants.{Read, Script, Memory, Run, Write}
+use Rattle.rdm_crew.specs.declared.error.RunError.TheVariants as run
+use Rattle.rdm_script.specs.declared.playing.Unplayed.{Unplayed}
+use Rattle.rdm_script.specs.declared.playing.Unplayed.TheVariants.{OutOfMemory, Faulty, Stopped}
+use Rattle.rdm_script.specs.Playing.{IsUnplayed, fault_of_play}
 use Rattle.rdm_script.specs.Program.{IsTraceOf, IsFailure}
 use Rattle.rdm_script.specs.Scene.{Scene}
 
@@ -56,3 +60,17 @@ pub front_input : (scene : Scene) (before after old new : Option (List ℕ)) (it
     → IfSome before (λ input. (t : List ℕ) × (count : ℕ) × IsTraceOf scene input t × Appends old new (take count t))
 front_input scene before after old new items text input trace wrote =
     known (λ i. (t : List ℕ) × (count : ℕ) × IsTraceOf scene i t × Appends old new (take count t)) before after items input.0 (input.1 trace.spelled.within) (text, wrote.0, trace, wrote.1)
+
+-- why a script isn't played is why the program fails
+pub unplayed_fails : (scene : Scene) (text : List ℕ) (why : Unplayed) → IsUnplayed scene text why → IsFailure scene (fault_of_play why) text
+unplayed_fails scene text OutOfMemory h = tt
+unplayed_fails scene text (Faulty script.OutOfMemory) h = tt
+unplayed_fails scene text (Faulty script.TooLong) h = h
+unplayed_fails scene text (Faulty (script.Line n)) h = h
+unplayed_fails scene text (Stopped run.OutOfMemory line) h = tt
+unplayed_fails scene text (Stopped run.Reserved line) h = h
+unplayed_fails scene text (Stopped run.TooLong line) h = h
+unplayed_fails scene text (Stopped run.Unsettled line) h = h
+unplayed_fails scene text (Stopped run.Astray line) h = h
+unplayed_fails scene text (Stopped run.Missing line) h = h
+unplayed_fails scene text (Stopped run.BadSetup line) h = h

@@ -1,8 +1,9 @@
 -- What is read is a script, and a script is read.
-use Rattle.std.proofs.Common.{◌≡◌, ◌≢◌, All, ℕ, Bool, true, false, cond, List, [], ◌∷◌, ◌++◌, map, drop, Option, Some, None, ◌⊎◌, inl, inr, refl, sym, ap, subst, ◌∙◌, arith}
+use Rattle.std.proofs.Common.{◌≡◌, ◌≢◌, All, ℕ, ◌-◌, Bool, true, false, cond, List, [], ◌∷◌, ◌++◌, map, drop, Option, Some, None, ◌⊎◌, inl, inr, refl, sym, ap, subst, ◌∙◌, arith}
 use Rattle.std.specs.List.{fold, flat_map}
 use Rattle.std.proofs.lemmas.List.Elements.{All-nil, All-cons, All-head, All-tail}
 use Rattle.std.proofs.lemmas.List.Concat.{flat_map-cons}
+use Rattle.std.proofs.lemmas.Option.{slice_get_within, get_or_from_slice_get}
 use Rattle.rdm_frame.specs.declared.uid.Uid.{Uid}
 use Rattle.rdm_frame.specs.Addressing.{all_devices}
 use Rattle.rdm_frame.specs.declared.fault.Fault.{Fault}
@@ -17,7 +18,7 @@ use Rattle.rdm_script.specs.declared.grammar.line.Line.{Line}
 use Rattle.rdm_script.specs.declared.grammar.line.Line.TheVariants.{Skipped, Sets, Faulty}
 use Rattle.rdm_script.specs.Parties.{plain_setup}
 use Rattle.rdm_script.specs.Search.{discovery, whole_branch, search_of}
-use Rattle.rdm_script.specs.Grammar.{setup_in, is_skipped, words_of, lines_of, line_in, first_line_in, said_later, said_by, setup_after, steps_of_line, IsRead}
+use Rattle.rdm_script.specs.Grammar.{setup_in, is_skipped, words_of, lines_of, line_in, first_line_in, said_later, said_by, setup_after, steps_of_line, IsFirstFaulty, IsRead}
 use Rattle.rdm_script.specs.Spelling.{SpellsFault, SpellsStep, SpellsLine, SpellsSetup, SpellSteps, SpellSetupAndSteps, IsScript}
 use Rattle.rdm_script.proofs.LineSpellings.{Speaks, setup_read, setup_isnt_skipped, said_skipped, line_speaks, spoken, first_is, first_sets, first_skipped, first_speaks, keeps_setup}
 
@@ -189,6 +190,12 @@ pub script_read : (dev : Dialect) (text : List ℕ) (setup : ScriptSetup) (steps
 script_read dev text setup steps s =
     let all = lines_read dev (lines_of text) setup steps s.says in
     record { within = s.within; says = record { faultless = all.0; setup_is = all.1; in_order = all.2 } }
+
+-- and no line of one is faulty
+pub never_faulty : (dev : Dialect) (text : List ℕ) (setup : ScriptSetup) (steps : List CrewStep) (number : ℕ) → IsRead dev text setup steps → ¬ IsFirstFaulty (said_by dev (lines_of text)) number
+never_faulty dev text setup steps number read first =
+    let said = said_by dev (lines_of text) in
+    read.says.faultless (number - 1) Faulty (slice_get_within said (number - 1) Faulty first.faulty) (get_or_from_slice_get said (number - 1) Faulty Faulty first.faulty)
 
 -- ---- what goes wrong at its steps
 

@@ -1,7 +1,5 @@
 -- What happens on a scene happens on each scene of the same device that gives at least as much.
-use Rattle.std.proofs.Common.{◌≡◌, ◌<◌, ◌⊎◌, ℕ, suc, List, [], ◌∷◌, ◌++◌, take, Option, Some, None, Result, Ok, Err, OnOk, IfOk, IfErr, IfSome, subst}
-use Rattle.std.specs.Bool.{⊤}
-use Rattle.std.specs.Io.KnownBytes.{Appends}
+use Rattle.std.proofs.Common.{◌≡◌, ◌<◌, ◌⊎◌, ℕ, suc, List, [], ◌∷◌, ◌++◌, Result, Ok, Err, IfOk, IfErr, subst}
 use Rattle.rdm_frame.specs.declared.uid.Uid.{Uid}
 use Rattle.rdm_profile.specs.declared.profile.Profile.{Profile}
 use Rattle.rdm_commands.specs.declared.panel.Change.{Change}
@@ -24,11 +22,9 @@ use Rattle.rdm_script.specs.Dialects.{Dialect}
 use Rattle.rdm_script.specs.declared.dialect.Spelling.{Spelling}
 use Rattle.rdm_script.specs.declared.playing.Unplayed.{Unplayed}
 use Rattle.rdm_script.specs.declared.playing.Unplayed.TheVariants as unplayed
-use Rattle.rdm_script.specs.declared.program.ProgramError.{ProgramError}
-use Rattle.rdm_script.specs.declared.program.ProgramError.TheVariants.{Read, Script, Memory, Run, Write}
 use Rattle.rdm_script.specs.declared.script.ScriptSetup.{ScriptSetup}
 use Rattle.rdm_script.specs.Grammar.{Refuses}
-use Rattle.rdm_script.specs.Program.{IsTraceOf, IsStopped, IsFailure}
+use Rattle.rdm_script.specs.Program.{IsTraceOf, IsStopped}
 use Rattle.rdm_script.specs.Playing.{IsPlayOf, IsStoppedAt, IsUnplayed, NamesStopLine}
 use Rattle.rdm_script.specs.Running.{crew_setup, IsBad, IsGood, IsScriptRun, Stops}
 use Rattle.rdm_script.specs.Scene.{Scene, spoken_at}
@@ -128,37 +124,6 @@ stopped_wider s t input e w h = record {
   spelled = retold (λ (d : Dialect). IsScript d input h.setup h.steps) s t w h.spelled;
   because = stops_wider s t e h.setup h.steps w h.because;
 }
-
-failure_wider : (s t : Scene) (e : ProgramError) (input : List ℕ) → IsWider s t → IsFailure s e input → IsFailure t e input
-failure_wider s t Read input w h = tt
-failure_wider s t (Script e) input w h = (retold (λ (d : Dialect). Refuses d e input) s t w h.0, h.1)
-failure_wider s t Memory input w h = tt
-failure_wider s t (Run e) input w h = (stopped_wider s t input e w h.0, h.1)
-failure_wider s t Write input w h = tt
-
--- ---- of what a program has done
-
-pub traced_wider : (s t : Scene) → IsWider s t → (r : Result ⊤ ProgramError) (known old new : Option (List ℕ))
-    → OnOk r (IfSome known (λ input. (text : List ℕ) × IsTraceOf s input text × Appends old new text))
-    → OnOk r (IfSome known (λ input. (text : List ℕ) × IsTraceOf t input text × Appends old new text))
-traced_wider s t w (Ok done) None old new h = tt
-traced_wider s t w (Ok done) (Some input) old new h = (h.0, trace_wider s t w input h.0 h.1, h.2)
-traced_wider s t w (Err e) known old new h = tt
-
-pub front_wider : (s t : Scene) → IsWider s t → (known old new : Option (List ℕ))
-    → IfSome known (λ input. (text : List ℕ) × (count : ℕ) × IsTraceOf s input text × Appends old new (take count text))
-    → IfSome known (λ input. (text : List ℕ) × (count : ℕ) × IsTraceOf t input text × Appends old new (take count text))
-front_wider s t w None old new h = tt
-front_wider s t w (Some input) old new h = (h.0, h.1, trace_wider s t w input h.0 h.2, h.3)
-
-failed_with : (s t : Scene) → IsWider s t → (e : ProgramError) (known : Option (List ℕ)) → IfSome known (IsFailure s e) → IfSome known (IsFailure t e)
-failed_with s t w e None h = tt
-failed_with s t w e (Some input) h = failure_wider s t e input w h
-
-pub failed_wider : (s t : Scene) → IsWider s t → (r : Result ⊤ ProgramError) (known : Option (List ℕ))
-    → IfErr r (λ e. IfSome known (IsFailure s e)) → IfErr r (λ e. IfSome known (IsFailure t e))
-failed_wider s t w (Ok done) known h = tt
-failed_wider s t w (Err e) known h = failed_with s t w e known h
 
 -- ---- of a script that was played
 

@@ -1,9 +1,10 @@
 //! Scripts of RDM commands: they are read, played on a responder that has just been switched on, and told as a trace
 //! of the bytes that went over the bus.
 //!
-//! `run_script` does all of it, for any reader and writer, on the fixture of the demonstration, `run_script_on` on any
-//! other, and `run_program` ends a program with what came of it. `play_script` plays a text, and gives the lines of its trace, or the
-//! line at which it stops. `parse_as` reads strict scripts and friendly ones. The language stands in `specs/Spelling.antt`, what
+//! `play_script` plays a text on any fixture, and gives the lines of its trace, or the line at which it stops; `play_demonstration`
+//! does so on the fixture of the demonstration. `run_script` goes from any reader to any writer with that, in strict words, and
+//! `run_program` ends a program with what came of it. `parse_as` reads scripts in any dialect, `parse` those of the demonstration in
+//! strict words. The language stands in `specs/Spelling.antt`, what
 //! `find` spells in `specs/Search.antt`, how a run is set up and why it stops in `specs/Running.antt`, the demonstration in
 //! `specs/DemoParts.antt`. `trace_lines` gives the lines of a run: which these are stands in `specs/RunLines.antt`, and whom a
 //! transaction finds in `specs/Finds.antt`. What a run is, rdm_crew says, and how a line is written rdm_trace.
@@ -40,7 +41,7 @@ pub use laws::{
 };
 pub use parties::{CONTROLLER, DEMO_DEVICE};
 pub use playing::{Unplayed, play_demonstration, play_script};
-pub use program::{ProgramError, run_script, run_script_on};
+pub use program::{ProgramError, run_script};
 pub use refusal::{Excerpt, Reason, Refusal, Wanted};
 pub use rules::{RuledPart, ruled_parts_fit};
 pub use run_lines::trace_lines;

@@ -76,7 +76,7 @@ impl From<ScriptError> for Unplayed {
     }
 }
 
-/// Plays the script that a text is on any fixture, and gives the lines of its trace, as `run_script_on` writes them.
+/// Plays the script that a text is on any fixture, and gives the lines of its trace.
 ///
 /// If it stops, it says at which line: that of the step at which `rdm_crew::run_steps` stops.
 pub fn play_script<T, P, Q, N>(
@@ -92,13 +92,17 @@ where
     N: Panel + Send + 'static,
     requires fits { FitsFor stage.profile.workers 0 (P.gives stage.first) × FitsFor stage.profile.workers 1 (Q.gives stage.second) }
     // The lines are those of a run of this script, and of what was recorded then.
-    ensures ok { IfOk result (λ lines. IsPlayOf (scene_of (in_turn P.gives P.gives_after) (in_turn Q.gives Q.gives_after) N.offers stage) text.now lines.items) }
+    ensures ok { IfOk result (λ lines. IsPlayOf
+        (scene_of (in_turn P.gives P.gives_after) (in_turn Q.gives Q.gives_after) N.offers stage) text.now lines.items) }
     // So their text is its trace.
-    ensures trace { IfOk result (λ lines. IsTraceOf (scene_of (in_turn P.gives P.gives_after) (in_turn Q.gives Q.gives_after) N.offers stage) text.now (lines_text lines.items)) }
+    ensures trace { IfOk result (λ lines. IsTraceOf
+        (scene_of (in_turn P.gives P.gives_after) (in_turn Q.gives Q.gives_after) N.offers stage) text.now (lines_text lines.items)) }
     // Each failure has its cause in the text.
-    ensures err { IfErr result (IsUnplayed (scene_of (in_turn P.gives P.gives_after) (in_turn Q.gives Q.gives_after) N.offers stage) text.now) }
+    ensures err { IfErr result (IsUnplayed
+        (scene_of (in_turn P.gives P.gives_after) (in_turn Q.gives Q.gives_after) N.offers stage) text.now) }
     // The line of a stop is that of the step at which the run stops, or of the setup.
-    ensures line { IfErr result (NamesStopLine (scene_of (in_turn P.gives P.gives_after) (in_turn Q.gives Q.gives_after) N.offers stage) text.now) }
+    ensures line { IfErr result (NamesStopLine
+        (scene_of (in_turn P.gives P.gives_after) (in_turn Q.gives Q.gives_after) N.offers stage) text.now) }
 {
     let dialect = Dialect {
         device: stage.device,

@@ -1,24 +1,17 @@
 //! From a reader to a writer: the script that is read is played, and its trace is written.
 
-ghost use Rattle.std.specs.Prelude.{◌≡◌, ◌≢◌, ℕ, List, take, OnOk, IfOk, IfErr, IfSome};
+ghost use Rattle.std.specs.Prelude.{◌≡◌, ◌≢◌, ℕ, List, take, OnOk, IfErr, IfSome};
 ghost use Rattle.std.specs.Io.KnownBytes.{Keeps, Appends, IsAtEnd};
-ghost use Rattle.rdm_crew.specs.RunTrace.{FitsFor};
 ghost use Rattle.rdm_script.specs.DemoParts.{demo_scene};
-ghost use Rattle.rdm_crew.specs.Workers.{in_turn};
-ghost use Rattle.rdm_script.specs.Scene.{scene_of};
 ghost use Rattle.rdm_script.specs.Playing.{fault_of_play};
 ghost use Rattle.rdm_script.specs.Program.{IsTraceOf, IsFailure, status_of, fault_of_script, fault_of_run};
 ghost use Rattle.rdm_script.specs.declared.program.ProgramError.TheVariants.{Memory, Read as ReadFault, Write as WriteFault};
 
-use crate::demo::demo_stage;
 use crate::dialect::Spelling;
 use crate::grammar::ScriptError;
-use crate::playing::{Unplayed, play_script};
-use crate::rules::ruled_parts_fit;
-use crate::stage::Stage;
+use crate::playing::{Unplayed, play_demonstration};
 use crate::streams::read_input;
-use rdm_crew::{Panel, Part, RunError};
-use rdm_outcomes::demo_rules_end_jobs;
+use rdm_crew::RunError;
 use rdm_trace::text_of;
 use std::alloc::{AllocError, Global};
 use std::error::Error;
@@ -156,63 +149,9 @@ where
     // Each failure has its cause in the input.
     ensures err { IfErr result (λ e. IfSome (R.remaining reader.old) (IsFailure demo_scene e)) }
 {
-    // What the parts give fits their jobs, and is what the jobs of the demonstration come to.
-    ruled_parts_fit();
-    demo_rules_end_jobs();
-    run_script_on(rt, alloc, reader, writer, demo_stage(Spelling::Strict))
-}
-
-/// Reads a script to its end, plays it on any fixture, and then writes the text of its trace, as `run_script` does.
-///
-/// The script may name at most as many sub-devices as the fixture has: more are told as a bad setup, before anything is
-/// played. Where it says nothing of them, the device has none.
-pub fn run_script_on<T, R: Read, W: Write, P, Q, N>(
-    rt: T,
-    alloc: Global,
-    reader: &mut R,
-    writer: &mut W,
-    stage: Stage<P, Q, N>,
-) -> Result<(), ProgramError>
-where
-    T: Threads + Wait + Copy + Send + 'static,
-    P: Part + Send + 'static,
-    Q: Part + Send + 'static,
-    N: Panel + Send + 'static,
-    requires fits { FitsFor stage.profile.workers 0 (P.gives stage.first) × FitsFor stage.profile.workers 1 (Q.gives stage.second) }
-    ensures ok { OnOk result (IfSome (R.remaining reader.old) (λ input. (text : List ℕ) ×
-        IsTraceOf (scene_of (in_turn P.gives P.gives_after) (in_turn Q.gives Q.gives_after) N.offers stage) input text ×
-        Appends (W.contents writer.old) (W.contents writer.new) text)) }
-    ensures whole { OnOk result (IsAtEnd (R.remaining reader.new)) }
-    ensures silent { IfErr result (λ e. e ≢ WriteFault → Keeps (W.contents writer.old) (W.contents writer.new)) }
-    ensures front { result ≡ Err WriteFault → IfSome (R.remaining reader.old) (λ input. (text : List ℕ) × (count : ℕ) ×
-        IsTraceOf (scene_of (in_turn P.gives P.gives_after) (in_turn Q.gives Q.gives_after) N.offers stage) input text ×
-        Appends (W.contents writer.old) (W.contents writer.new) (take count text)) }
-    ensures err { IfErr result (λ e. IfSome (R.remaining reader.old)
-        (IsFailure (scene_of (in_turn P.gives P.gives_after) (in_turn Q.gives Q.gives_after) N.offers stage) e)) }
-{
     let input = read_input(alloc, reader)?;
-    let text = play(rt, alloc, &input, stage)?;
+    let lines = play_demonstration(rt, alloc, Spelling::Strict, &input)?;
+    let text = text_of(alloc, &lines)?;
     rdm_streams::write_all(writer, &text)?;
     Ok(())
-}
-
-/// The text of the trace of a script.
-fn play<T, P, Q, N>(
-    rt: T,
-    alloc: Global,
-    input: &[u8],
-    stage: Stage<P, Q, N>,
-) -> Result<Vec<u8>, ProgramError>
-where
-    T: Threads + Wait + Copy + Send + 'static,
-    P: Part + Send + 'static,
-    Q: Part + Send + 'static,
-    N: Panel + Send + 'static,
-    requires fits { FitsFor stage.profile.workers 0 (P.gives stage.first) × FitsFor stage.profile.workers 1 (Q.gives stage.second) }
-    ensures ok { IfOk result (λ text. IsTraceOf (scene_of (in_turn P.gives P.gives_after) (in_turn Q.gives Q.gives_after) N.offers stage) input.now text.items) }
-    ensures err { IfErr result (λ e. IsFailure (scene_of (in_turn P.gives P.gives_after) (in_turn Q.gives Q.gives_after) N.offers stage) e input.now ×
-        (e ≢ ReadFault) × (e ≢ WriteFault)) }
-{
-    let lines = play_script(rt, alloc, input, stage)?;
-    Ok(text_of(alloc, lines.as_slice())?)
 }

@@ -37,12 +37,15 @@ where
     requires fits { FitsFor stage.profile.workers 0 (P.gives stage.first) × FitsFor stage.profile.workers 1 (Q.gives stage.second) }
     requires faults { HaveFaults steps.now }
     // What happened is a run of these steps, and both laws of a collector hold of it.
-    ensures trace { IfOk result (λ trace. IsScriptRun (scene_of (in_turn P.gives P.gives_after) (in_turn Q.gives Q.gives_after) N.offers stage) setup steps.now trace.events) }
+    ensures trace { IfOk result (λ trace. IsScriptRun
+        (scene_of (in_turn P.gives P.gives_after) (in_turn Q.gives Q.gives_after) N.offers stage) setup steps.now trace.events) }
     ensures recorded { IfOk result (λ trace. trace.recorded ≡ recorded trace.events) }
     ensures laws { IfOk result (λ trace. BusLaws (switched_on (crew_setup stage.device stage.profile setup)) trace.events) }
     ensures good { OnOk result (IsGood (scene_of (in_turn P.gives P.gives_after) (in_turn Q.gives Q.gives_after) N.offers stage) setup) }
-    ensures bad_setup { IsErrOf result Stopped.BadSetup ↔ IsBad (scene_of (in_turn P.gives P.gives_after) (in_turn Q.gives Q.gives_after) N.offers stage) setup }
-    ensures err { IfErr result (λ stopped. Stops (scene_of (in_turn P.gives P.gives_after) (in_turn Q.gives Q.gives_after) N.offers stage) (error_of stopped) setup steps.now) }
+    ensures bad_setup { IsErrOf result Stopped.BadSetup ↔ IsBad
+        (scene_of (in_turn P.gives P.gives_after) (in_turn Q.gives Q.gives_after) N.offers stage) setup }
+    ensures err { IfErr result (λ stopped. Stops
+        (scene_of (in_turn P.gives P.gives_after) (in_turn Q.gives Q.gives_after) N.offers stage) (error_of stopped) setup steps.now) }
     ensures stop { IfErr result (λ stopped. IsStopAt steps.now stopped) }
 {
     if stage.profile.subs < setup.subs {

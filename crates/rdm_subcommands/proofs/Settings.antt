@@ -1,13 +1,11 @@
 -- What a script is played on is the scene of the fixture.
-use Rattle.std.proofs.Common.{◌≡◌, ℕ, List, [], Option, Some, None, Result, Ok, IfOk, sym, subst}
+use Rattle.std.proofs.Common.{◌≡◌, ℕ, List, [], Option, Some, None}
 use Rattle.rdm_fixture.specs.declared.fixture.Fixture.{Fixture}
-use Rattle.rdm_fixture.specs.Describes.{Describes}
 use Rattle.rdm_script.specs.declared.demo.DemoPanel.{DemoPanel}
 use Rattle.rdm_script.specs.declared.dialect.Spelling.TheVariants.{Friendly}
 use Rattle.rdm_script.specs.declared.rules.RuledPart.{RuledPart}
 use Rattle.rdm_script.specs.declared.stage.Stage.{Stage}
 use Rattle.rdm_script.specs.DemoParts.{demo_scene_in}
-use Rattle.rdm_script.specs.Playing.{IsPlayOf}
 use Rattle.rdm_script.specs.Rules.{HasDone}
 use Rattle.rdm_script.proofs.DemoScene.{ruled_scene}
 use Rattle.rdm_script.proofs.Widening.{IsWider}
@@ -33,17 +31,3 @@ fixture_is_wider stage f device profile spelling first second = record {
 pub played_text : (file : Option FixtureFile) (text : List ℕ) (lines : List Line) → ArePlayed file text lines → IsPlayed file text (lines_text lines)
 played_text (Some file) text lines h = (h.0, h.1, play_traced (scene_on h.0) text lines h.2)
 played_text None text lines h = play_traced (demo_scene_in Friendly) text lines h
-
--- lines that were played on the fixture of the file
-pub on_file : {A E : Type 0} (asked : Option FixtureFile) (file : FixtureFile) (f : Fixture) (text : List ℕ) (r : Result A E) (items : A → List Line) (a : A) → asked ≡ Some file
-    → Describes file.bytes.items f → IfOk r (λ x. IsPlayOf (scene_on f) text (items x)) → r ≡ Ok a → ArePlayed asked text (items a)
-on_file {A} {E} asked file f text r items a is described played ok =
-    subst (λ (o : Option FixtureFile). ArePlayed o text (items a)) (sym is)
-    (f, described, subst (λ (x : Result A E). IfOk x (λ y. IsPlayOf (scene_on f) text (items y))) ok played)
-
--- and without a file
-pub on_demonstration : {A E : Type 0} (asked : Option FixtureFile) (text : List ℕ) (r : Result A E) (items : A → List Line) (a : A) → asked ≡ None
-    → IfOk r (λ x. IsPlayOf (demo_scene_in Friendly) text (items x)) → r ≡ Ok a → ArePlayed asked text (items a)
-on_demonstration {A} {E} asked text r items a is played ok =
-    subst (λ (o : Option FixtureFile). ArePlayed o text (items a)) (sym is)
-    (subst (λ (x : Result A E). IfOk x (λ y. IsPlayOf (demo_scene_in Friendly) text (items y))) ok played)

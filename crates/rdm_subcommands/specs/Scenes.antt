@@ -11,8 +11,8 @@ use Rattle.rdm_script.specs.Scene.{Scene}
 use Rattle.rdm_trace.specs.declared.line.Line.{Line}
 use Rattle.rdm_host.specs.declared.fixture.FixtureFile.{FixtureFile}
 
--- The fixture of a file: both workers end its jobs by its rules, each of which counts the jobs that its worker did before, and its panel offers the changes of the demonstration. The words
--- of its scripts may be spelled as people say them.
+-- The fixture of a file: both workers end its jobs by its rules, each of which counts the jobs that its worker did before, and its panel
+-- offers the changes of the demonstration. The words of its scripts may be spelled as people say them.
 abbrev pub scene_on : Fixture → Scene
 scene_on fixture = record {
   device = fixture.uid;

@@ -2,15 +2,12 @@
 
 use crate::words::MOST_BYTES;
 use clap::ArgMatches;
-use rdm_chart::{ChartError, MOST_TRANSACTIONS, chart, chart_of};
-use rdm_fixture::Fixture;
+use rdm_chart::{ChartError, MOST_TRANSACTIONS, chart};
 use rdm_host::fault::Fault;
 use rdm_host::fixture::FixtureFile;
 use rdm_host::host::Host;
 use rdm_host::source::{Source, refuse_clashes, save, without_mark};
-use rdm_trace::Line;
 use rdm_words::Known;
-use std::alloc::AllocError;
 
 /// Reads the trace that is named, and writes its chart. Without a fixture's file, nothing is known of any fixture.
 pub fn run<'a, H: Host>(rt: H, asked: &ArgMatches<'a>) -> Result<(), Fault<'a>> {
@@ -43,14 +40,4 @@ fn picture<'a, H: Host>(
             MOST_TRANSACTIONS,
         )),
     }
-}
-
-/// The chart of the lines of a trace.
-pub(crate) fn draw<H: Host>(
-    rt: H,
-    lines: &[Line],
-    fixture: &Fixture,
-) -> Result<Vec<u8>, AllocError> {
-    let known = Known::of(fixture.uid, &fixture.profile);
-    chart_of(rt.alloc(), lines, &known)
 }

@@ -8,5 +8,6 @@ pub mod parameters;
 pub mod play;
 mod rig;
 mod saved;
+mod told;
 pub mod widget;
 pub mod words;

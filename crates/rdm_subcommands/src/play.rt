@@ -1,6 +1,6 @@
 //! `felosumay play`: a script is played, and its trace printed, or its words, and drawn.
 
-ghost use Rattle.std.specs.Prelude.{◌≡◌, ℕ, List, [], IfOk, IfErr, OnOk};
+ghost use Rattle.std.specs.Prelude.{◌≡◌, ℕ, List, [], None, Some, IfOk, IfErr, OnOk};
 ghost use Rattle.std.specs.Io.KnownBytes.{Appends};
 ghost use Rattle.rdm_script.specs.Playing.{IsPlayOf, NamesStopLine};
 ghost use Rattle.rdm_script.specs.Rules.{HasDone};
@@ -8,20 +8,20 @@ ghost use Rattle.rdm_script.specs.declared.dialect.Spelling.TheVariants.{Friendl
 ghost use Rattle.rdm_subcommands.specs.Scenes.{scene_on, ArePlayed, IsPlayed};
 ghost use Rattle.rdm_host.specs.Sources.{IsAskedFor};
 
-use crate::chart::draw;
-use crate::words::words_of;
+use crate::told::Told;
 use clap::ArgMatches;
+use rdm_chart::chart_of;
 use rdm_fixture::Fixture;
-use rdm_frame::standard::MOST_SUB_DEVICES;
 use rdm_host::fault::Fault;
-use rdm_host::fixture::{FixtureFile, demonstration};
+use rdm_host::fixture::FixtureFile;
 use rdm_host::host::Host;
 use rdm_host::source::{OUTPUT, Source, print, refuse_clashes, save, without_mark};
 use rdm_script::{
-    CONTROLLER, DemoPanel, Dialect, MOST_BYTES, Refusal, RuledPart, Spelling, Stage, Unplayed,
-    Wanted, play_demonstration, play_script, ruled_parts_fit,
+    CONTROLLER, DemoPanel, MOST_BYTES, Refusal, RuledPart, Spelling, Stage, Unplayed, Wanted,
+    play_demonstration, play_script, ruled_parts_fit,
 };
 use rdm_trace::{Line, text_of};
+use rdm_words::words_of_lines;
 use std::io;
 use std::io::Write;
 
@@ -39,35 +39,21 @@ pub fn run<'a, H: Host>(rt: H, asked: &ArgMatches<'a>) -> Result<(), Fault<'a>> 
 }
 
 /// Draws a trace, and prints it or its words. A chart on standard output stands in the place of the trace.
-fn show<'a, H: Host>(
-    rt: H,
-    asked: &ArgMatches<'a>,
-    lines: &[Line],
-    fixture: &Fixture,
-) -> Result<(), Fault<'a>> {
+fn show<'a, H: Host>(rt: H, asked: &ArgMatches<'a>, played: &Played) -> Result<(), Fault<'a>> {
+    let lines = played.lines.as_slice();
+    let known = played.told.known();
     if let Some(path) = asked.get_str(rdm_usage::CHART) {
-        save_chart(rt, path, lines, fixture)?;
+        save(rt, path, chart_of(rt.alloc(), lines, &known)?.as_slice())?;
         if path == "-" {
             return Ok(());
         }
     }
     let text = if asked.get_flag(rdm_usage::WORDS) {
-        words_of(rt, lines, fixture)?
+        words_of_lines(rt.alloc(), lines, &known)?
     } else {
         text_of(rt.alloc(), lines)?
     };
     print(rt, text.as_slice())
-}
-
-/// Draws a trace into the file of a path.
-fn save_chart<'a, H: Host>(
-    rt: H,
-    path: &'a str,
-    lines: &[Line],
-    fixture: &Fixture,
-) -> Result<(), Fault<'a>> {
-    let picture = draw(rt, lines, fixture)?;
-    save(rt, path, picture.as_slice())
 }
 
 /// A script in words as people spell them.
@@ -78,13 +64,20 @@ struct Script<'s, 'a> {
     text: &'s [u8],
 }
 
+/// A script that was played.
+#[derive(Drop)]
+struct Played {
+    /// The lines of its trace.
+    lines: Vec<Line>,
+    /// The fixture on which it was played.
+    told: Told,
+}
+
 /// What a script is played on.
 #[derive(Drop)]
 struct Setting<'a> {
     /// The file of the fixture, if one is asked for. Otherwise it is the fixture of the demonstration.
     file: Option<FixtureFile<'a>>,
-    /// The fixture of which words and charts tell.
-    fixture: Fixture,
 }
 
 impl<'a> Setting<'a> {
@@ -93,14 +86,7 @@ impl<'a> Setting<'a> {
         ensures file { IfOk result (λ setting. IsAskedFor (H.reads rt) asked.now setting.file) }
     {
         let file = FixtureFile::asked_for(rt, asked)?;
-        let fixture = match &file {
-            Some(file) => file.fixture(rt)?,
-            None => demonstration(),
-        };
-        if fixture.uid == CONTROLLER {
-            return Err(Fault::ControllersUid(CONTROLLER));
-        }
-        Ok(Setting { file, fixture })
+        Ok(Setting { file })
     }
 
     /// Plays a script, and prints what is asked for.
@@ -111,29 +97,11 @@ impl<'a> Setting<'a> {
         script: Script<'_, 'a>,
     ) -> Result<(), Fault<'a>> {
         if asked.contains_id(rdm_usage::CHART) || asked.get_flag(rdm_usage::WORDS) {
-            let lines = self.lines(rt, script)?;
-            return show(rt, asked, lines.as_slice(), &self.fixture);
+            let played = self.lines(rt, script)?;
+            return show(rt, asked, &played);
         }
         let mut writer = io::writer(&rt);
         self.write_trace(rt, script, &mut writer)
-    }
-
-    /// What the words of a script may be.
-    fn dialect(&self) -> Dialect<'_> {
-        Dialect {
-            device: self.fixture.uid,
-            spelling: Spelling::Friendly,
-            own: self.fixture.profile.particulars.own(),
-        }
-    }
-
-    /// How many sub-devices a script can ask for.
-    fn subs(&self) -> u16 {
-        match &self.file {
-            Some(_) => self.fixture.profile.subs,
-            // A script can give the fixture of the demonstration as many.
-            None => MOST_SUB_DEVICES,
-        }
     }
 
     /// Plays a script, and writes its trace.
@@ -146,8 +114,8 @@ impl<'a> Setting<'a> {
         ensures ok { OnOk result ((text : List ℕ) × IsPlayed self.now.file script.entry.text.now text ×
             Appends (W.contents writer.old) (W.contents writer.new) text) }
     {
-        let lines = self.lines(rt, script)?;
-        let text = text_of(rt.alloc(), lines.as_slice())?;
+        let played = self.lines(rt, script)?;
+        let text = text_of(rt.alloc(), played.lines.as_slice())?;
         match writer.write_all(text.as_slice()) {
             Ok(()) => Ok(()),
             Err(error) => Err(Fault::Io(OUTPUT, error)),
@@ -155,49 +123,60 @@ impl<'a> Setting<'a> {
     }
 
     /// Plays a script, and gives the lines of its trace.
-    fn lines<H: Host>(&self, rt: H, script: Script<'_, 'a>) -> Result<Vec<Line>, Fault<'a>>
-        ensures ok { IfOk result (λ lines. ArePlayed self.now.file script.entry.text.now lines.items) }
+    fn lines<H: Host>(&self, rt: H, script: Script<'_, 'a>) -> Result<Played, Fault<'a>>
+        ensures ok { IfOk result (λ played. ArePlayed self.now.file script.entry.text.now played.lines.items) }
     {
-        let played = match &self.file {
-            Some(file) => play_on(rt, file.fixture(rt)?, script.text),
-            None => play_demonstration(rt, rt.alloc(), Spelling::Friendly, script.text),
-        };
-        match played {
-            Ok(lines) => Ok(lines),
-            Err(why) => Err(self.told(script, why)),
+        match &self.file {
+            Some(file) => lines_on(rt, file, script),
+            None => demonstrated(rt, script),
         }
     }
+}
 
-    /// What is told of a script that isn't played to its end.
-    fn told(&self, script: Script<'_, 'a>, why: Unplayed) -> Fault<'a> {
-        let Script { name, text } = script;
-        match why {
-            Unplayed::OutOfMemory => Fault::Memory,
-            Unplayed::Faulty(error) => self.refused(Fault::script(
-                name,
-                &self.dialect(),
-                text,
-                error,
-            )),
-            Unplayed::Stopped(error, line) => Fault::stopped(name, line, self.subs(), error),
-        }
+/// Plays a script on the fixture that a file describes, which is parsed once, for the run and for what is told of it.
+fn lines_on<'a, H: Host>(
+    rt: H,
+    file: &FixtureFile<'a>,
+    script: Script<'_, 'a>,
+) -> Result<Played, Fault<'a>>
+    ensures ok { IfOk result (λ played. ArePlayed (Some file.now) script.entry.text.now played.lines.items) }
+{
+    let fixture = file.fixture(rt)?;
+    if fixture.uid == CONTROLLER {
+        return Err(Fault::ControllersUid(CONTROLLER));
     }
-
-    /// What is told of a text that is no script.
-    fn refused(&self, fault: Fault<'a>) -> Fault<'a> {
-        match fault {
-            Fault::Script(name, refusal) => self.refused_word(name, refusal),
-            _ => fault,
-        }
+    let told = Told::of(rt.alloc(), &fixture)?;
+    match play_on(rt, fixture, script.text) {
+        Ok(lines) => Ok(Played { lines, told }),
+        Err(why) => Err(told.fault(script.name, script.text, why)),
     }
+}
 
-    /// What is told of a word of a script. A file would give the names of a maker's own parameters, where none is asked for.
-    fn refused_word(&self, name: &'a str, refusal: Refusal) -> Fault<'a> {
-        if self.file.is_none() && refusal.wanted == Wanted::StandardParameter {
-            Fault::NoOwnNames(name, refusal)
-        } else {
-            Fault::Script(name, refusal)
-        }
+/// Plays a script on the fixture of the demonstration.
+fn demonstrated<'a, H: Host>(rt: H, script: Script<'_, 'a>) -> Result<Played, Fault<'a>>
+    ensures ok { IfOk result (λ played. ArePlayed None script.entry.text.now played.lines.items) }
+{
+    let told = Told::demonstration();
+    match play_demonstration(rt, rt.alloc(), Spelling::Friendly, script.text) {
+        Ok(lines) => Ok(Played { lines, told }),
+        Err(why) => Err(without_file(told.fault(script.name, script.text, why))),
+    }
+}
+
+/// What is told of a text that is no script, where no file of a fixture is asked for.
+fn without_file(fault: Fault<'_>) -> Fault<'_> {
+    match fault {
+        Fault::Script(name, refusal) => refused_word(name, refusal),
+        _ => fault,
+    }
+}
+
+/// What is told of a word of such a text. A file would give the names of a maker's own parameters.
+fn refused_word(name: &str, refusal: Refusal) -> Fault<'_> {
+    if refusal.wanted == Wanted::StandardParameter {
+        Fault::NoOwnNames(name, refusal)
+    } else {
+        Fault::Script(name, refusal)
     }
 }
 

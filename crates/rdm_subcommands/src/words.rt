@@ -1,14 +1,11 @@
 //! `felosumay words`: what a trace or frames say, in words.
 
 use clap::ArgMatches;
-use rdm_fixture::Fixture;
 use rdm_host::fault::Fault;
 use rdm_host::fixture::FixtureFile;
 use rdm_host::host::Host;
 use rdm_host::source::{Source, print, refuse_clashes, without_mark};
-use rdm_trace::Line;
-use rdm_words::{Before, Known, put_text_line, words_of_lines};
-use std::alloc::AllocError;
+use rdm_words::{Before, Known, put_text_line};
 use std::fs;
 use std::io::{BufRead, BufReader, Read};
 
@@ -93,14 +90,4 @@ fn without_end(line: &[u8]) -> &[u8] {
         [front @ .., b'\n'] => front,
         _ => line,
     }
-}
-
-/// The words of the lines of a trace.
-pub(crate) fn words_of<H: Host>(
-    rt: H,
-    lines: &[Line],
-    fixture: &Fixture,
-) -> Result<Vec<u8>, AllocError> {
-    let known = Known::of(fixture.uid, &fixture.profile);
-    words_of_lines(rt.alloc(), lines, &known)
 }

@@ -1,5 +1,5 @@
 -- Words that are fixed are plain, and so they are written as they are.
-use Rattle.std.proofs.Common.{◌≡◌, ◌≢◌, ℕ, zero, suc, ◌+◌, ◌/◌, ◌%◌, ◌<◌, ◌^◌, Bool, true, false, ◌&&◌, List, [], ◌∷◌, ◌++◌, Option, Some, None, codes, decimal, slice_index, length, Result, Ok, Err, OnOk, refl, sym, ap, subst, ◌∙◌, arith, append_assoc, inl, inr}
+use Rattle.std.proofs.Common.{◌≡◌, ◌≢◌, ℕ, zero, suc, ◌+◌, ◌/◌, ◌%◌, ◌<◌, ◌^◌, Bool, true, false, ◌&&◌, List, [], ◌∷◌, ◌++◌, Option, Some, None, codes, decimal, slice_index, length, map, Result, Ok, Err, OnOk, refl, sym, ap, subst, ◌∙◌, arith, append_assoc, inl, inr}
 use Rattle.std.specs.List.{AllByRecursion, list_all}
 use Rattle.std.specs.Int.{w16, w32, to_be_bytes}
 use Rattle.std.specs.Str.{IsAscii}
@@ -23,8 +23,10 @@ use Rattle.rdm_trace.specs.declared.line.Line.TheVariants.{Send, Reply, Heard, F
 use Rattle.rdm_words.specs.Plain.{is_plain, IsPlain, IsFixed, shown_byte, shown}
 use Rattle.rdm_words.specs.declared.before.Before.{Before}
 use Rattle.rdm_words.specs.Before.{IsAnswerOf, IsAnswerIn}
-use Rattle.rdm_words.specs.Fixed.{cause_words, stray_words, answer_words, raised_words, fault_line, heard_words, answerer_words, found_words, job_words, is_readable, AreWordsOfWhole, AreWordsOfBytes, AreWordsOfHeard, AreWordsOfLine}
+use Rattle.rdm_words.specs.Fixed.{cause_words, stray_words, answer_words, raised_words, fault_line, heard_words, answerer_words, found_words, job_words, time_words, is_readable, AreWordsOfWhole, AreWordsOfBytes, AreWordsOfHeard, AreWordsOfLine}
 use Rattle.rdm_words.specs.Said.{Tells}
+use Rattle.rdm_words.specs.Naming.{NamesInLine, SaysFacts}
+use Rattle.rdm_words.proofs.Naming.{line_named}
 use Rattle.rdm_words.proofs.Plainness.{plain_append, digit_plain, digit_small, told_line}
 
 -- ---- texts that are plain
@@ -285,10 +287,34 @@ adds_found (Ok t) before line uid old new is added = λ words are.
     let same : words ≡ found_words uid = subst (λ (l : Line). AreWordsOfLine before l words) is are in
     (subst (λ (w : List ℕ). IsFixed w) (sym same) (fixed_found uid), added ∙ ap (λ (w : List ℕ). old ++ w) (sym same))
 
-pub adds_no_time : {T E : Type 0} (r : Result T E) (before : Before) (line : Line) (millis : ℕ) (old new : List ℕ)
-    → line ≡ Time millis → Adds r (λ words. AreWordsOfLine before line words) old new
-adds_no_time (Err e) before line millis old new is = tt
-adds_no_time (Ok t) before line millis old new is = λ words are. absurd (subst (λ (l : Line). AreWordsOfLine before l words) is are)
+-- when the next line happened
+pub plain_time : (millis : ℕ) → millis < 2 ^ 64 → IsPlain (time_words millis)
+plain_time millis h =
+    plain_append (codes "at ") (decimal (millis / 1000) ++ (46 ∷ (tenth ++ (hundredth ++ (last ++ codes " s"))))) (tried (codes "at ") refl)
+    (plain_append (decimal (millis / 1000)) (46 ∷ (tenth ++ (hundredth ++ (last ++ codes " s")))) (plain_decimal (millis / 1000) (omega (arith, h))) (
+      refl,
+      plain_append tenth (hundredth ++ (last ++ codes " s")) (plain_decimal (millis / 100 % 10) (omega arith))
+          (plain_append hundredth (last ++ codes " s") (plain_decimal (millis / 10 % 10) (omega arith))
+          (plain_append last (codes " s") (plain_decimal (millis % 10) (omega arith)) (tried (codes " s") refl))),
+    ))
+  where
+    tenth : List ℕ
+    tenth = decimal (millis / 100 % 10)
+
+    hundredth : List ℕ
+    hundredth = decimal (millis / 10 % 10)
+
+    last : List ℕ
+    last = decimal (millis % 10)
+
+pub adds_time : {T E : Type 0} (r : Result T E) (before : Before) (line : Line) (millis : ℕ) (old new : List ℕ)
+    → line ≡ Time millis → IsPlain (time_words millis) → OnOk r (new ≡ old ++ time_words millis) → Adds r (λ words. AreWordsOfLine before line words) old new
+adds_time (Err e) before line millis old new is plain added = tt
+adds_time (Ok t) before line millis old new is plain added = λ words are.
+    let same : words ≡ time_words millis = subst (λ (l : Line). AreWordsOfLine before l words) is are in (
+      subst (λ (w : List ℕ). IsFixed w) (sym same) (record { some = λ e. absurd cc; plain = plain }),
+      added ∙ ap (λ (w : List ℕ). old ++ w) (sym same),
+    )
 
 -- ---- written as they are
 
@@ -306,8 +332,9 @@ none_behind (x ∷ xs) ys e = absurd cc
 
 -- what is written of a text, or of a remark in place of one that is empty
 pub tells_text : (text own : List ℕ) → own ≢ [] → (text ≢ [] → own ≡ text)
-    → Tells (λ (said : List ℕ). IsFixed said × (said ≡ text)) (λ (said : List ℕ). IsFixed said × (front : List ℕ) × (text ≡ front ++ said)) (shown own ++ 10 ∷ [])
-tells_text text own some same = record { told = told_line own some; fixed = fixed; last = last }
+    → Tells (λ (said : List ℕ). IsFixed said × (said ≡ text)) (λ (said : List ℕ). IsFixed said × (front : List ℕ) × (text ≡ front ++ said))
+    (λ (facts : List (List ℕ)). (text ≢ []) × NamesInLine facts text) (shown own ++ 10 ∷ [])
+tells_text text own some same = record { told = told_line own some; fixed = fixed; last = last; named = named }
   where
     fixed : (said : List ℕ) → IsFixed said × (said ≡ text) → shown own ++ 10 ∷ [] ≡ said ++ 10 ∷ []
     fixed said h =
@@ -321,23 +348,39 @@ tells_text text own some same = record { told = told_line own some; fixed = fixe
         ap (λ (w : List ℕ). shown w) is ∙ flat_map-append shown_byte h.1 said ∙ ap (λ (w : List ℕ). shown h.1 ++ w) (as_they_are said h.0.plain) in
         (shown h.1, ap (λ (w : List ℕ). w ++ 10 ∷ []) parts ∙ append_assoc (shown h.1) said (10 ∷ []))
 
-pub tells_these : (Are Last Other Others : List ℕ → Type 0) (own : List ℕ) → Tells Other Others own
-    → ((words : List ℕ) → Are words → Other words) → ((words : List ℕ) → Last words → Others words) → Tells Are Last own
-tells_these Are Last Other Others own tells same also =
-    record { told = tells.told; fixed = λ words are. tells.fixed words (same words are); last = λ words are. tells.last words (also words are) }
+    named : (facts : List (List ℕ)) → (text ≢ []) × NamesInLine facts text → NamesInLine (map shown facts) (shown own ++ 10 ∷ [])
+    named facts h = line_named facts own (subst (λ (w : List ℕ). NamesInLine facts w) (sym (same h.0)) h.1)
 
-pub told_these : {T E : Type 0} (r : Result T E) (Are Last : List ℕ → Type 0) (start text bytes before after : List ℕ) → bytes ≡ text → start ≡ []
+pub tells_these : (Are Last Other Others : List ℕ → Type 0) (Facts More : List (List ℕ) → Type 0) (own : List ℕ) → Tells Other Others More own
+    → ((words : List ℕ) → Are words → Other words) → ((words : List ℕ) → Last words → Others words) → ((facts : List (List ℕ)) → Facts facts → More facts)
+    → Tells Are Last Facts own
+tells_these Are Last Other Others Facts More own tells same also these = record {
+  told = tells.told;
+  fixed = λ words are. tells.fixed words (same words are);
+  last = λ words are. tells.last words (also words are);
+  named = λ facts are. tells.named facts (these facts are);
+}
+
+pub told_these : {T E : Type 0} (r : Result T E) (Are Last : List ℕ → Type 0) (Facts : List (List ℕ) → Type 0) (start text bytes before after : List ℕ)
+    → bytes ≡ text → start ≡ []
     → ((words : List ℕ) → Are words → IsFixed words × (text ≡ start ++ words))
     → ((words : List ℕ) → Last words → IsFixed words × (front : List ℕ) × (text ≡ start ++ (front ++ words)))
+    → ((facts : List (List ℕ)) → Facts facts → SaysFacts facts start text)
     → OnOk r ((own : List ℕ)
-    × Tells (λ (said : List ℕ). IsFixed said × (said ≡ bytes)) (λ (said : List ℕ). IsFixed said × (front : List ℕ) × (bytes ≡ front ++ said)) own
+    × Tells (λ (said : List ℕ). IsFixed said × (said ≡ bytes)) (λ (said : List ℕ). IsFixed said × (front : List ℕ) × (bytes ≡ front ++ said))
+    (λ (facts : List (List ℕ)). (bytes ≢ []) × NamesInLine facts bytes) own
     × (after ≡ before ++ own))
-    → OnOk r ((own : List ℕ) × Tells Are Last own × (after ≡ before ++ own))
-told_these (Err e) Are Last start text bytes before after same none fixed last told = tt
-told_these (Ok t) Are Last start text bytes before after same none fixed last told = (
+    → OnOk r ((own : List ℕ) × Tells Are Last Facts own × (after ≡ before ++ own))
+told_these (Err e) Are Last Facts start text bytes before after same none fixed last named told = tt
+told_these (Ok t) Are Last Facts start text bytes before after same none fixed last named told = (
   told.0,
-  tells_these Are Last (λ said. IsFixed said × (said ≡ bytes)) (λ said. IsFixed said × (front : List ℕ) × (bytes ≡ front ++ said)) told.0 told.1
+  tells_these Are Last (λ said. IsFixed said × (said ≡ bytes)) (λ said. IsFixed said × (front : List ℕ) × (bytes ≡ front ++ said))
+      Facts (λ facts. (bytes ≢ []) × NamesInLine facts bytes) told.0 told.1
       (λ words are. let f = fixed words are in (f.0, sym (same ∙ f.1 ∙ ap (λ (s : List ℕ). s ++ words) none)))
-      (λ words are. let f = last words are in (f.0, f.1, same ∙ f.2 ∙ ap (λ (s : List ℕ). s ++ (f.1 ++ words)) none)),
+      (λ words are. let f = last words are in (f.0, f.1, same ∙ f.2 ∙ ap (λ (s : List ℕ). s ++ (f.1 ++ words)) none))
+      (λ facts are.
+      let f = named facts are in
+      let is : bytes ≡ f.words = same ∙ f.whole ∙ ap (λ (s : List ℕ). s ++ f.words) none in
+      (λ e. f.some (sym is ∙ e), subst (λ (w : List ℕ). NamesInLine facts w) (sym is) f.named)),
   told.2,
 )

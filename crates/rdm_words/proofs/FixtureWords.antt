@@ -1,5 +1,5 @@
 -- The words of a fixture are plain, and stand behind what was there.
-use Rattle.std.proofs.Common.{◌≡◌, ℕ, ◌<◌, ◌^◌, ◌==◌, Bool, true, false, cond, List, [], ◌∷◌, ◌++◌, Result, Ok, Err, OnOk, codes, decimal, refl, sym, ap, subst, ◌∙◌, arith, append_assoc}
+use Rattle.std.proofs.Common.{◌≡◌, ℕ, ◌<◌, ◌^◌, ◌==◌, Bool, true, false, cond, List, [], ◌∷◌, ◌++◌, Result, Ok, Err, OnOk, codes, decimal, refl, ap, ◌∙◌, append_assoc}
 use Rattle.std.specs.Int.{w16, to_be_bytes}
 use Rattle.rdm_profile.specs.declared.profile.Profile.{Profile}
 use Rattle.rdm_frame.specs.declared.uid.Uid.{Uid}

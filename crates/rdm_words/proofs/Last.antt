@@ -1,5 +1,5 @@
 -- The last words of what is said: they are plain, and stand at the end.
-use Rattle.std.proofs.Common.{◌≡◌, ◌≢◌, ℕ, ◌<◌, List, [], ◌∷◌, ◌++◌, Option, Some, None, codes, slice_index, Result, Ok, Err, OnOk, refl, sym, ap, subst, ◌∙◌, append_assoc, inl, inr, Bool, true}
+use Rattle.std.proofs.Common.{◌≡◌, ◌≢◌, ℕ, ◌<◌, List, [], ◌∷◌, ◌++◌, Option, Some, None, codes, slice_index, Result, Ok, Err, OnOk, refl, sym, ap, subst, ◌∙◌, append_assoc, inl, inr, true}
 use Rattle.std.specs.Result.{result_ok}
 use Rattle.rdm_frame.specs.declared.frame.Frame.{Frame}
 use Rattle.rdm_frame.specs.declared.uid.Uid.{Uid}
@@ -29,7 +29,7 @@ plain_data bytes fits = plain_append (10 ∷ codes "  data ") (digits bytes) (tr
 fixed_data : (bytes : List ℕ) → bytes ≢ [] → ((i : ℕ) → slice_index bytes i < 256) → IsFixed (data_line bytes)
 fixed_data bytes some fits = record { some = λ e. absurd cc; plain = plain_data bytes fits }
 
-the_frame : {E : Type 0} (r : Result Frame E) (bytes : List ℕ) (f g : Frame) → r ≡ Ok f → result_ok r ≡ frame_in bytes → frame_in bytes ≡ Some g → f ≡ g
+pub the_frame : {E : Type 0} (r : Result Frame E) (bytes : List ℕ) (f g : Frame) → r ≡ Ok f → result_ok r ≡ frame_in bytes → frame_in bytes ≡ Some g → f ≡ g
 the_frame {E = E} r bytes f g is value has = same_some f g (sym (ap (λ (x : Result Frame E). result_ok x) is) ∙ value ∙ has)
 
 pub last_of_frame : {T E F : Type 0} (r : Result T E) (read : Result Frame F) (bytes : List ℕ) (f : Frame) (old new : List ℕ)
@@ -51,7 +51,7 @@ last_of_frame (Ok t) read bytes f old new is fits value none put = λ words are.
         )
     by words (inr are) = absurd (none are.0 are.1.0)
 
-no_frame : {F : Type 0} (read : Result Frame F) (bytes : List ℕ) (e : F) (f : Frame) → read ≡ Err e → result_ok read ≡ frame_in bytes → frame_in bytes ≡ Some f → ⊥
+pub no_frame : {F : Type 0} (read : Result Frame F) (bytes : List ℕ) (e : F) (f : Frame) → read ≡ Err e → result_ok read ≡ frame_in bytes → frame_in bytes ≡ Some f → ⊥
 no_frame {F = F} read bytes e f is value has =
     let none : None ≡ Some f = sym (ap (λ (x : Result Frame F). result_ok x) is) ∙ value ∙ has in absurd cc
 

@@ -1,6 +1,5 @@
 -- What was noted was asked, and an answer is one of those that are kept.
-use Rattle.std.proofs.Common.{◌≡◌, ℕ, ◌<◌, zero, suc, Bool, true, false, List, [], ◌∷◌, ◌++◌, length, get_or, slice_get, Result, Ok, Err, OnOk, Option, Some, None, IfSome, refl, arith, ◌||◌, ◌∙◌, ap}
-use Rattle.std.specs.List.{list_any}
+use Rattle.std.proofs.Common.{◌≡◌, ℕ, ◌<◌, zero, suc, Bool, true, false, List, [], ◌∷◌, ◌++◌, length, get_or, slice_get, Result, Ok, Err, OnOk, Option, Some, None, IfSome, refl, arith, ◌||◌}
 use Rattle.std.specs.Str.{bytes_eq}
 use Rattle.std.proofs.lemmas.Bool.{eq-eqb}
 use Rattle.rdm_frame.specs.declared.uid.Uid.{Uid}

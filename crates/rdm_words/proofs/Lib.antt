@@ -1,9 +1,16 @@
+pub mod Appends
+pub mod Entries
 pub mod Fixed
 pub mod FixtureWords
+pub mod FrameNames
+pub mod HeaderNames
+pub mod LaidOut
 pub mod Last
 pub mod Learning
 pub mod Lines
+pub mod Naming
 pub mod Plainness
+pub mod Reports
 pub mod Says
 pub mod Telling
 pub mod Unescaping

@@ -1,9 +1,10 @@
 -- What is written is plain, and an escaped text is read back.
 use Rattle.std.proofs.Common.{◌≡◌, ◌≢◌, ℕ, ◌/◌, ◌%◌, ◌<◌, ◌==◌, Bool, true, false, cond, ◌||◌, List, [], ◌∷◌, ◌++◌, length, Option, Some, None, codes, refl, sym, subst, arith}
 use Rattle.std.specs.Str.{IsAscii, IsUtf8}
-use Rattle.std.proofs.lemmas.Str.{IsUtf8-from_ascii}
+use Rattle.std.proofs.lemmas.Str.{IsAscii-append, IsUtf8-from_ascii}
+use Rattle.std.proofs.lemmas.Str.Ascii.{IsAscii-nil, IsAscii-cons}
 use Rattle.std.proofs.lemmas.Bool.Decides.{nat_tests}
-use Rattle.rdm_frame.specs.Digits.{digit}
+use Rattle.rdm_frame.specs.Digits.{digit, digits}
 use Rattle.rdm_words.specs.Plain.{is_printable, is_plain, IsPlain, by_digits, shown_byte, shown, escaped_byte, escaped}
 use Rattle.rdm_trace.specs.Reading.{line_in, wire_in}
 use Rattle.rdm_trace.specs.Traces.{is_remark}
@@ -29,6 +30,30 @@ digit_small n h = grind (arith, nat_tests)
 
 pub ascii_is_text : (bytes : List ℕ) → IsAscii bytes → IsUtf8 bytes
 ascii_is_text bytes h = IsUtf8-from_ascii bytes h
+
+-- ---- escaped texts are ASCII
+
+ascii_byte : (b : ℕ) → IsAscii (escaped_byte b)
+unfolding escaped_byte
+ascii_byte b = by ((b == 0x22) || (b == 0x5C)) (is_printable b) refl refl
+  where
+    marked : (b : ℕ) → ((b == 0x22) || (b == 0x5C)) ≡ true → b < 128
+    marked b h = grind (arith, nat_tests)
+
+    printed : (b : ℕ) → is_printable b ≡ true → b < 128
+    printed b h = grind (arith, nat_tests)
+
+    by : (x y : Bool) → ((b == 0x22) || (b == 0x5C)) ≡ x → is_printable b ≡ y → IsAscii (cond x (0x5C ∷ b ∷ []) (cond y (b ∷ []) (by_digits b)))
+    by true y e f = IsAscii-cons 0x5C (b ∷ []) (omega arith) (IsAscii-cons b [] (marked b e) IsAscii-nil)
+    by false true e f = IsAscii-cons b [] (printed b f) IsAscii-nil
+    by false false e f =
+        IsAscii-cons 0x5C (0x78 ∷ digits (b % 256 ∷ [])) (omega arith) (IsAscii-cons 0x78 (digits (b % 256 ∷ [])) (omega arith)
+        (IsAscii-cons (digit (b % 256 / 16)) (digit (b % 256 % 16) ∷ []) (digit_small (b % 256 / 16) (omega arith))
+        (IsAscii-cons (digit (b % 256 % 16)) [] (digit_small (b % 256 % 16) (omega arith)) IsAscii-nil)))
+
+pub ascii_escaped : (text : List ℕ) → IsAscii (escaped text)
+ascii_escaped [] = IsAscii-nil
+ascii_escaped (b ∷ text) = IsAscii-append (escaped_byte b) (escaped text) (ascii_byte b) (ascii_escaped text)
 
 plain_digits : (b : ℕ) → IsPlain (by_digits b)
 plain_digits b = (refl, (refl, (digit_plain (b % 256 / 16) (omega arith), (digit_plain (b % 256 % 16) (omega arith), tt))))

@@ -1,9 +1,8 @@
 -- What says a line: one that is empty, one of a trace, a frame, and any other.
-use Rattle.std.proofs.Common.{◌≡◌, ◌≢◌, ℕ, List, [], ◌∷◌, ◌++◌, length, codes, Some, None, refl, sym, ◌∙◌, arith}
+use Rattle.std.proofs.Common.{◌≡◌, ◌≢◌, ℕ, List, [], ◌∷◌, length, Some, None, refl, sym, ◌∙◌, arith}
 use Rattle.std.proofs.lemmas.Bool.{ne_eqb}
 use Rattle.rdm_trace.specs.declared.line.Line.{Line}
 use Rattle.rdm_trace.specs.Reading.{line_in, said_by, told_by, first_word, behind_word, wire_in}
-use Rattle.rdm_words.specs.Plain.{escaped}
 use Rattle.rdm_trace.specs.Traces.{is_remark}
 use Rattle.rdm_words.specs.declared.before.Before.{Before}
 use Rattle.rdm_words.specs.Said.{TellsLine, TellsBytes, Says, other_words}

@@ -1,5 +1,5 @@
 -- The words that are fixed: those of bytes that aren't a frame, which nothing interprets, and of lines of a trace that hold none.
-use Rattle.std.specs.Prelude.{◌≡◌, ◌≢◌, ◌⊎◌, ℕ, Bool, true, false, ◌==◌, ◌&&◌, nat_le, nat_lt, if◌then◌else◌, length, slice_index, List, [], ◌∷◌, ◌++◌, Option, Some, None, codes, decimal}
+use Rattle.std.specs.Prelude.{◌≡◌, ◌≢◌, ◌⊎◌, ℕ, ◌/◌, ◌%◌, Bool, true, ◌==◌, ◌&&◌, nat_le, nat_lt, if◌then◌else◌, length, slice_index, List, [], ◌∷◌, ◌++◌, Option, Some, None, codes, decimal}
 use Rattle.rdm_frame.specs.declared.decoding.FrameError.{FrameError}
 use Rattle.rdm_frame.specs.declared.decoding.FrameError.TheVariants.{Short, Start, SubStart, Length, Pdl, Checksum}
 use Rattle.rdm_frame.specs.declared.uid.Uid.{Uid}
@@ -102,7 +102,12 @@ found_words uid = codes "the controller finds " ++ uid_text uid
 abbrev pub job_words : ℕ → ℕ → List ℕ
 job_words worker number = codes "job " ++ (decimal number ++ (codes " of worker " ++ decimal worker))
 
--- The words of a line of a trace, by what went before it, but for what a frame, a report, a change at the menu, a message and a time hold.
+-- when the next line happened: seconds, with three digits behind the point
+abbrev pub time_words : ℕ → List ℕ
+time_words millis =
+    codes "at " ++ (decimal (millis / 1000) ++ (46 ∷ (decimal (millis / 100 % 10) ++ (decimal (millis / 10 % 10) ++ (decimal (millis % 10) ++ codes " s")))))
+
+-- The words of a line of a trace, by what went before it, but for what a frame, a report, a change at the menu and a message hold.
 abbrev pub AreWordsOfLine : Before → Line → List ℕ → Type 0
 AreWordsOfLine before (Send bytes fault) words = (front : List ℕ) × AreWordsOfBytes bytes front × (words ≡ front ++ fault_line fault)
 AreWordsOfLine before (Reply None) words = words ≡ codes "no reply"
@@ -113,5 +118,5 @@ AreWordsOfLine before (Found uid) words = words ≡ found_words uid
 AreWordsOfLine before (Arrive job outcome) words = ⊥
 AreWordsOfLine before (Panel change refused) words = ⊥
 AreWordsOfLine before (Message message) words = ⊥
-AreWordsOfLine before (Time millis) words = ⊥
+AreWordsOfLine before (Time millis) words = words ≡ time_words millis
 AreWordsOfLine before End words = words ≡ codes "end of the trace"

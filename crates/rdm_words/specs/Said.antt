@@ -1,12 +1,14 @@
 -- What the words of a text are: no line of it is lost. The lines are those that `lines` of the standard library gives.
-use Rattle.std.specs.Prelude.{◌≡◌, ◌≢◌, ℕ, Bool, true, false, ◌==◌, List, [], ◌∷◌, ◌++◌, length, Option, Some, None, codes}
+use Rattle.std.specs.Prelude.{◌≡◌, ◌≢◌, ℕ, Bool, true, false, ◌==◌, List, [], ◌∷◌, ◌++◌, length, map, Option, Some, None, codes}
 use Rattle.rdm_trace.specs.declared.line.Line.{Line}
 use Rattle.rdm_trace.specs.Reading.{line_in, wire_in}
 use Rattle.rdm_trace.specs.Traces.{is_remark}
 use Rattle.rdm_words.specs.declared.before.Before.{Before}
 use Rattle.rdm_words.specs.Before.{after}
-use Rattle.rdm_words.specs.Plain.{IsPlain, escaped}
+use Rattle.rdm_words.specs.Plain.{IsPlain, escaped, shown}
 use Rattle.rdm_words.specs.Fixed.{AreWordsOfBytes, AreWordsOfLine}
+use Rattle.rdm_words.specs.FrameFacts.{AreFactsOfBytes, AreFactsOfLine}
+use Rattle.rdm_words.specs.Naming.{NamesInLine}
 use Rattle.rdm_words.specs.Unread.{AreLastOfBytes, AreLastOfLine}
 
 -- These bytes are one or more whole lines of text, in which something stands that is plain.
@@ -16,17 +18,19 @@ pub record IsTold (own : List ℕ) : Type 0 where
   pub some : words ≢ []
   pub plain : IsPlain own
 
--- If it is fixed which words are said, they stand there, and nothing else does; and if it is fixed which are the last, these stand at the end.
-pub record Tells (AreWords : List ℕ → Type 0) (AreLast : List ℕ → Type 0) (own : List ℕ) : Type 0 where
+-- If it is fixed which words are said, they stand there, and nothing else does; if it is fixed which are the last, these stand at the end; and
+-- if facts are to be named, each stands there as it is written, one behind the other.
+pub record Tells (AreWords : List ℕ → Type 0) (AreLast : List ℕ → Type 0) (AreFacts : List (List ℕ) → Type 0) (own : List ℕ) : Type 0 where
   pub told : IsTold own
   pub fixed : (words : List ℕ) → AreWords words → own ≡ words ++ 10 ∷ []
   pub last : (words : List ℕ) → AreLast words → (front : List ℕ) × (own ≡ front ++ (words ++ 10 ∷ []))
+  pub named : (facts : List (List ℕ)) → AreFacts facts → NamesInLine (map shown facts) own
 
 abbrev pub TellsBytes : List ℕ → List ℕ → Type 0
-TellsBytes bytes own = Tells (λ words. AreWordsOfBytes bytes words) (λ words. AreLastOfBytes bytes words) own
+TellsBytes bytes own = Tells (λ words. AreWordsOfBytes bytes words) (λ words. AreLastOfBytes bytes words) (λ facts. AreFactsOfBytes bytes facts) own
 
 abbrev pub TellsLine : Before → Line → List ℕ → Type 0
-TellsLine before line own = Tells (λ words. AreWordsOfLine before line words) (λ words. AreLastOfLine line words) own
+TellsLine before line own = Tells (λ words. AreWordsOfLine before line words) (λ words. AreLastOfLine line words) (λ facts. AreFactsOfLine line facts) own
 
 -- a line that says nothing of a bus: a remark stands as it is
 abbrev pub other_words : Bool → List ℕ → List ℕ

@@ -1,10 +1,9 @@
 -- The last words of a line: data that nothing interprets, since no table has their parameter. They stand there as all of their digits.
-use Rattle.std.specs.Prelude.{◌≡◌, ◌≢◌, ◌⊎◌, ℕ, Bool, true, ◌==◌, ◌||◌, List, [], ◌∷◌, ◌++◌, Option, Some, None, codes}
+use Rattle.std.specs.Prelude.{◌≡◌, ◌≢◌, ◌⊎◌, ℕ, Bool, true, ◌==◌, ◌||◌, List, [], ◌∷◌, ◌++◌, Some, None, codes, length, if◌then◌else◌}
 use Rattle.rdm_frame.specs.declared.frame.Frame.{Frame}
 use Rattle.rdm_frame.specs.declared.decoding.FrameError.{FrameError}
 use Rattle.rdm_frame.specs.Digits.{digits}
 use Rattle.rdm_frame.specs.Reading.{frame_in}
-use Rattle.rdm_frame.specs.declared.message.Message.{Message}
 use Rattle.rdm_params.specs.Table.Rows.{row_of}
 use Rattle.rdm_trace.specs.declared.line.Line.{Line}
 use Rattle.rdm_trace.specs.declared.line.Line.TheVariants.{Send, Reply, Job, Heard, Found, Arrive, Panel, Message as TheMessage, Time, End}
@@ -13,6 +12,14 @@ use Rattle.rdm_words.specs.Fixed.{fault_line, stray_words, with_start, is_readab
 -- a line of its own with the data
 abbrev pub data_line : List ℕ → List ℕ
 data_line bytes = 10 ∷ codes "  data " ++ digits bytes
+
+-- such a line, if there are data
+abbrev pub plain_line : List ℕ → List ℕ
+plain_line bytes = if length bytes == 0 then [] else data_line bytes
+
+-- the same, but for the two slots of an ACK_TIMER or a NACK, which stand in the header
+abbrev pub put_off_line : List ℕ → List ℕ
+put_off_line bytes = if length bytes == 2 then [] else plain_line bytes
 
 -- the command class of a discovery request, or of the response to one. E1.20 table A-1.
 abbrev pub is_discovery : ℕ → Bool

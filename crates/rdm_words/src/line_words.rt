@@ -3,6 +3,7 @@
 ghost use Rattle.std.specs.Prelude.{◌≡◌, ◌≢◌, ℕ, List, [], ◌∷◌, ◌++◌, None, IfOk, OnOk, codes};
 ghost use Rattle.std.specs.Str.Lines.{lines};
 ghost use Rattle.rdm_words.specs.Plain.{IsFixed, escaped, shown};
+ghost use Rattle.rdm_words.specs.Naming.{NamesInLine};
 ghost use Rattle.rdm_words.specs.Said.{Says, SayInTurn, Tells, TellsLine, TellsBytes, AreToldInTurn, behind, other_words};
 ghost use Rattle.rdm_words.specs.declared.before.Before.{Before as TheBefore};
 ghost use Rattle.rdm_words.specs.Before.{before_all};
@@ -131,7 +132,8 @@ fn put_unread(out: &mut Vec<u8>, line: &[u8]) -> Result<(), AllocError>
 /// A line of its own, with these words, or with a remark that there are none.
 fn put_told(out: &mut Vec<u8>, words: &[u8]) -> Result<(), AllocError>
     ensures told { OnOk result ((own : List ℕ)
-        × Tells (λ said. IsFixed said × (said ≡ words.now)) (λ said. IsFixed said × (front : List ℕ) × (words.now ≡ front ++ said)) own
+        × Tells (λ said. IsFixed said × (said ≡ words.now)) (λ said. IsFixed said × (front : List ℕ) × (words.now ≡ front ++ said))
+        (λ facts. (words.now ≢ []) × NamesInLine facts words.now) own
         × (out.new.items ≡ out.old.items ++ own)) }
 {
     put_whole(out, some_words(words))?;

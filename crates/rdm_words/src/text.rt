@@ -1,8 +1,10 @@
 //! Bytes as text.
 
 ghost use Rattle.std.specs.Prelude.{◌≡◌, ◌++◌, OnOk, string_bytes};
+ghost use Rattle.std.specs.Int.{w16, to_be_bytes};
 ghost use Rattle.std.specs.Str.{IsAscii};
 ghost use Rattle.rdm_frame.specs.Digits.{digits};
+ghost use Rattle.rdm_words.specs.HeaderWords.{line_below, quoted};
 ghost use Rattle.rdm_words.specs.Plain.{is_printable, is_of_tables, is_plain, by_digits, shown_byte, shown, escaped_byte, escaped};
 
 use rdm_frame::digits::put_digits;
@@ -18,6 +20,24 @@ pub(crate) fn put_hex(text: &mut String, bytes: &[u8]) -> Result<(), AllocError>
     put_ascii(text, shown.as_slice())
 }
 
+/// The words on a line of their own below, if there are any.
+pub(crate) fn put_below(text: &mut String, words: &str) -> Result<(), AllocError>
+    ensures { OnOk result (string_bytes text.new ≡ string_bytes text.old ++ line_below words.now) }
+{
+    if words.is_empty() {
+        return Ok(());
+    }
+    text.push_str("\n  ")?;
+    text.push_str(words)
+}
+
+/// The two bytes of a number in hexadecimal digits.
+pub(crate) fn put_word(text: &mut String, word: u16) -> Result<(), AllocError>
+    ensures { OnOk result (string_bytes text.new ≡ string_bytes text.old ++ digits (to_be_bytes w16 word)) }
+{
+    put_hex(text, &word.to_be_bytes())
+}
+
 /// Characters of ASCII. Nothing else is handed in.
 #[tactic(auto, using(crate::proofs::Plainness::ascii_is_text))]
 fn put_ascii(text: &mut String, characters: &[u8]) -> Result<(), AllocError>
@@ -30,14 +50,18 @@ fn put_ascii(text: &mut String, characters: &[u8]) -> Result<(), AllocError>
 }
 
 /// The bytes as a text of the fixture, in quotes.
-pub(crate) fn put_quoted(text: &mut String, bytes: &[u8]) -> Result<(), AllocError> {
-    text.push('"')?;
+pub(crate) fn put_quoted(text: &mut String, bytes: &[u8]) -> Result<(), AllocError>
+    ensures { OnOk result (string_bytes text.new ≡ string_bytes text.old ++ quoted bytes.now) }
+{
+    text.push_str("\"")?;
     put_foreign(text, bytes)?;
-    text.push('"')
+    text.push_str("\"")
 }
 
 /// A text of the fixture, escaped.
-pub(crate) fn put_foreign(text: &mut String, bytes: &[u8]) -> Result<(), AllocError> {
+pub(crate) fn put_foreign(text: &mut String, bytes: &[u8]) -> Result<(), AllocError>
+    ensures { OnOk result (string_bytes text.new ≡ string_bytes text.old ++ escaped bytes.now) }
+{
     let mut shown = Vec::new(*text.allocator());
     put_escaped(&mut shown, bytes)?;
     put_ascii(text, shown.as_slice())

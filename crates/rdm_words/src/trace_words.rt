@@ -1,7 +1,11 @@
 //! The words of the lines of a trace.
 
-ghost use Rattle.std.specs.Prelude.{◌≡◌, ℕ, List, ◌++◌, Some, OnOk, string_bytes};
-ghost use Rattle.rdm_words.specs.Fixed.{AreWordsOfBytes, AreWordsOfLine, answerer_words, fault_line, found_words, heard_words, job_words, raised_words};
+ghost use Rattle.std.specs.Prelude.{◌≡◌, ℕ, List, [], ◌∷◌, ◌++◌, Some, OnOk, option_map, string_bytes};
+ghost use Rattle.std.specs.Fmt.{signed_decimal};
+ghost use Rattle.rdm_words.specs.Fixed.{AreWordsOfBytes, AreWordsOfLine, answerer_words, fault_line, found_words, heard_words, job_words, raised_words, time_words};
+ghost use Rattle.rdm_words.specs.FrameFacts.{AreFactsOfLine, message_facts, outcome_facts};
+ghost use Rattle.rdm_words.specs.LineWords.{change_words, heading_words, panel_words, refused_words};
+ghost use Rattle.rdm_words.specs.Naming.{AddsNames, SaysFacts};
 ghost use Rattle.rdm_words.specs.Before.{IsAnswerIn};
 ghost use Rattle.rdm_words.specs.Plain.{IsFixed, IsPlain};
 ghost use Rattle.rdm_frame.specs.declared.uid.Uid.{Uid as TheUid};
@@ -10,12 +14,12 @@ ghost use Rattle.rdm_words.specs.Unread.{AreUnread, AreLastOfLine, data_line};
 
 use crate::data::known::Facts;
 use crate::data::layout::layout_of;
-use crate::data::own::{put_own_line, put_parameter};
+use crate::data::own::{own_name, put_own_words, put_parameter_by};
 use crate::data::statuses::{Status, put_failure};
 use crate::frame::class::put_class;
 use crate::frame::frame_words::{Subject, put_bytes_words, put_data_lines};
 use crate::frame::place::put_place;
-use crate::text::put_quoted;
+use crate::text::{put_below, put_quoted};
 use crate::{Before, Known};
 use rdm_collector::Heard;
 use rdm_frame::{Fault, Uid};
@@ -35,6 +39,7 @@ pub(crate) fn put_trace_line(
         ((words : List ℕ) → AreWordsOfLine before.now line.now words → IsFixed words × (string_bytes text.new ≡ string_bytes text.old ++ words)) }
     ensures last { OnOk result ((words : List ℕ) → AreLastOfLine line.now words
         → IsFixed words × (front : List ℕ) × (string_bytes text.new ≡ string_bytes text.old ++ (front ++ words))) }
+    ensures named { OnOk result ((facts : List (List ℕ)) → AreFactsOfLine line.now facts → SaysFacts facts (string_bytes text.old) (string_bytes text.new)) }
 {
     match line {
         Line::Send { bytes, fault } => {
@@ -133,10 +138,14 @@ fn put_ignored(text: &mut String, before: &Before) -> Result<(), AllocError>
     text.push_str(heard_words(Some(Heard::Ignored)))
 }
 
-/// When the next line happened.
-fn put_time(text: &mut String, millis: u64) -> Result<(), AllocError> {
-    let (seconds, rest) = (millis / 1000, millis % 1000);
-    write!(text, "at {seconds}.{rest:03} s")
+/// When the next line happened: seconds, with three digits behind the point.
+fn put_time(text: &mut String, millis: u64) -> Result<(), AllocError>
+    ensures words { OnOk result (string_bytes text.new ≡ string_bytes text.old ++ time_words millis) }
+    ensures plain { IsPlain (time_words millis) }
+{
+    let (seconds, tenth) = (millis / 1000, millis / 100 % 10);
+    let (hundredth, last) = (millis / 10 % 10, millis % 10);
+    write!(text, "at {seconds}.{tenth}{hundredth}{last} s")
 }
 
 /// Which fixture the controller finds.
@@ -147,10 +156,12 @@ fn put_found(text: &mut String, uid: Uid) -> Result<(), AllocError>
 }
 
 /// How a job ended.
-fn put_outcome(text: &mut String, outcome: Outcome, known: &Facts<'_>) -> Result<(), AllocError> {
+fn put_outcome(text: &mut String, outcome: Outcome, known: &Facts<'_>) -> Result<(), AllocError>
+    ensures { OnOk result (AddsNames (outcome_facts outcome) (string_bytes text.old) (string_bytes text.new)) }
+{
     match outcome {
         Outcome::Done => text.push_str(" is done"),
-        Outcome::Reading(value) => write!(text, " has measured {value}"),
+        Outcome::Reading(value) => put_reading(text, value),
         Outcome::Failed {
             severity,
             id,
@@ -169,17 +180,41 @@ fn put_outcome(text: &mut String, outcome: Outcome, known: &Facts<'_>) -> Result
     }
 }
 
+/// What was measured.
+#[tactic(auto, using(crate::proofs::LaidOut::measured_fact))]
+fn put_reading(text: &mut String, value: i16) -> Result<(), AllocError>
+    ensures { OnOk result (AddsNames (signed_decimal value ∷ []) (string_bytes text.old) (string_bytes text.new)) }
+{
+    write!(text, " has measured {value}")
+}
+
 /// A change at the fixture's own menu.
-fn put_panel(text: &mut String, change: &Change, refused: bool) -> Result<(), AllocError> {
+fn put_panel(text: &mut String, change: &Change, refused: bool) -> Result<(), AllocError>
+    ensures { OnOk result (string_bytes text.new ≡ string_bytes text.old ++ panel_words change.now refused) }
+{
     text.push_str("at the fixture's menu: ")?;
+    put_change(text, change)?;
+    put_refused(text, refused)
+}
+
+/// What is changed.
+fn put_change(text: &mut String, change: &Change) -> Result<(), AllocError>
+    ensures { OnOk result (string_bytes text.new ≡ string_bytes text.old ++ change_words change.now) }
+{
     match change {
-        Change::Start(start) => write!(text, "DMX start address {start}")?,
-        Change::Personality(number) => write!(text, "personality {number}")?,
+        Change::Start(start) => write!(text, "DMX start address {start}"),
+        Change::Personality(number) => write!(text, "personality {number}"),
         Change::Label(label) => {
             text.push_str("device label ")?;
-            put_quoted(text, label.as_slice())?;
+            put_quoted(text, label.as_slice())
         }
     }
+}
+
+/// Whether it was refused.
+fn put_refused(text: &mut String, refused: bool) -> Result<(), AllocError>
+    ensures { OnOk result (string_bytes text.new ≡ string_bytes text.old ++ refused_words refused) }
+{
     if refused {
         return text.push_str(", refused");
     }
@@ -190,28 +225,40 @@ fn put_panel(text: &mut String, change: &Change, refused: bool) -> Result<(), Al
 fn put_message(text: &mut String, message: &Message, known: &Facts<'_>) -> Result<(), AllocError>
     ensures last { AreUnread message.now.class message.now.pid message.now.body → OnOk result (IsPlain (data_line message.now.body)
         × (front : List ℕ) × (string_bytes text.new ≡ string_bytes text.old ++ (front ++ data_line message.now.body))) }
+    ensures named { OnOk result (SaysFacts (message_facts message.now) (string_bytes text.old) (string_bytes text.new)) }
 {
+    let (class, pid) = (message.class, message.pid);
     let mut head = String::new(*text.allocator());
-    put_heading(&mut head, message, known)?;
+    put_heading(&mut head, class, pid, message.sub, own_name(pid, known))?;
+    let mut own = String::new(*text.allocator());
+    put_own_words(&mut own, class, pid, message.body.as_slice(), known)?;
     text.push_str(head.as_str())?;
-    let layout = layout_of(message.class, message.pid);
-    let subject = Subject::whole(message.pid);
-    put_data_lines(text, subject, layout, message.body.as_slice(), known)
+    put_below(text, own.as_str())?;
+    let layout = layout_of(class, pid);
+    put_data_lines(
+        text,
+        Subject::whole(pid),
+        layout,
+        message.body.as_slice(),
+        known,
+    )
 }
 
 /// What a message is, and of what.
-fn put_heading(text: &mut String, message: &Message, known: &Facts<'_>) -> Result<(), AllocError> {
-    let Message {
-        class,
-        pid,
-        sub,
-        body,
-    } = message;
+#[tactic(auto, unfolding(crate::specs::LineWords::heading_words))]
+fn put_heading(
+    text: &mut String,
+    class: u8,
+    pid: u16,
+    sub: u16,
+    own: Option<&[u8]>,
+) -> Result<(), AllocError>
+    ensures { OnOk result (string_bytes text.new ≡ string_bytes text.old ++ heading_words class pid sub (option_map (λ name. name.now) own.entry)) }
+{
     text.push_str("recorded: ")?;
-    put_class(text, *class)?;
-    text.push(' ')?;
-    put_parameter(text, *pid, known)?;
+    put_class(text, class)?;
+    text.push_str(" ")?;
+    put_parameter_by(text, pid, own)?;
     text.push_str(", ")?;
-    put_place(text, *sub)?;
-    put_own_line(text, *class, *pid, body.as_slice(), known)
+    put_place(text, sub)
 }

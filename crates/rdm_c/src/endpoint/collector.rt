@@ -1,19 +1,18 @@
 //! What a collector does for C.
 
-ghost use Rattle.std.specs.Prelude.{◌≡◌, ◌≢◌, ◌↔◌, IfSome, IsSome, MatchOption, false, length, slice_get};
-ghost use Rattle.rdm_collector.specs.Collecting.{refusal_of, poll_request, command_request, heard_in};
-ghost use Rattle.rdm_c.specs.CollectorStates.{CollectorState, asked, ended, listened, may_repeat, polled, taken};
-ghost use Rattle.rdm_c.specs.Messages.{heard_code, message_in};
-ghost use Rattle.rdm_c.specs.Endpoints.{IsIn, flag, found, is_collector};
+ghost use Rattle.std.specs.Prelude.{◌≡◌, ◌≢◌, ◌↔◌, IfSome, IsSome, MatchOption, None, Some, drop, is_some, slice_get};
+ghost use Rattle.rdm_collector.specs.Sending.{refusal_of, poll_request, command_request};
+ghost use Rattle.rdm_collector.specs.AnyDevice.Collecting.{sender, after_ask, after_poll, after_over, after_hearing, heard_in};
+ghost use Rattle.rdm_c.specs.Endpoints.{collector_of, found};
+ghost use Rattle.rdm_c.specs.Messages.{Tells, heard_numbers};
 ghost use Rattle.rdm_c.specs.Requests.{IsWritten};
 ghost use Rattle.rdm_c.specs.Statuses.{of_refusal};
 
 use crate::endpoint::Endpoint;
 use crate::front::write_front;
-use crate::message::{MessageNumbers, heard_code};
-use crate::running_collector::RunningCollector;
+use crate::message::{HeardNumbers, MessageNumbers};
 use crate::status::Status;
-use rdm_collector::{AskError, Command, PollError};
+use rdm_collector::{AskError, Command, DeviceCollector, PollError};
 use rdm_frame::standard::MOST_SLOTS;
 
 /// Sends a command: writes its request to the front.
@@ -23,32 +22,31 @@ pub(crate) fn ask(
     request: &mut [u8; MOST_SLOTS],
     count: &mut usize,
 ) -> Status
-    ensures refused { (s : CollectorState) → IsIn endpoint.old s → result ≡ of_refusal (refusal_of s.collector command.now) }
-    ensures sent { (s : CollectorState) → IsIn endpoint.old s → result ≡ Status.Done →
-        IsWritten count.new request.new (command_request s.collector command.now) }
-    ensures after { (s : CollectorState) → IsIn endpoint.old s → result ≡ Status.Done → IsIn endpoint.new (asked s command.now) }
+    ensures refused { IfSome (collector_of endpoint.old) (λ s. result ≡ of_refusal (refusal_of (sender s) command.now)) }
+    ensures sent { IfSome (collector_of endpoint.old) (λ s. result ≡ Status.Done →
+        IsWritten count.new request.new (command_request (sender s) command.now)) }
+    ensures after { IfSome (collector_of endpoint.old) (λ s. result ≡ Status.Done →
+        collector_of endpoint.new ≡ Some (after_ask s command.now)) }
     ensures same { result ≢ Status.Done → endpoint.new ≡ endpoint.old }
-    ensures absent { (result ≡ Status.Absent) ↔ (is_collector endpoint.old ≡ false) }
+    ensures absent { (result ≡ Status.Absent) ↔ (collector_of endpoint.old ≡ None) }
     ensures known { result ≢ Status.Unknown }
 {
     match endpoint {
-        Endpoint::Responder(_) | Endpoint::DeviceCollector(_) | Endpoint::Searcher(_) => {
-            Status::Absent
-        },
+        Endpoint::Responder(_) | Endpoint::Searcher(_) => Status::Absent,
         Endpoint::Collector(collector) => send(collector, command, request, count),
     }
 }
 
 /// Sends a command, as `ask`.
 fn send(
-    collector: &mut RunningCollector,
+    collector: &mut DeviceCollector,
     command: &Command,
     request: &mut [u8; MOST_SLOTS],
     count: &mut usize,
 ) -> Status
-    ensures refused { result ≡ of_refusal (refusal_of collector.old.collector command.now) }
-    ensures sent { result ≡ Status.Done → IsWritten count.new request.new (command_request collector.old.collector command.now) }
-    ensures after { result ≡ Status.Done → collector.new ≡ asked collector.old command.now }
+    ensures refused { result ≡ of_refusal (refusal_of (sender collector.old) command.now) }
+    ensures sent { result ≡ Status.Done → IsWritten count.new request.new (command_request (sender collector.old) command.now) }
+    ensures after { result ≡ Status.Done → collector.new ≡ after_ask collector.old command.now }
     ensures same { result ≢ Status.Done → collector.new ≡ collector.old }
     ensures found { (result ≢ Status.Absent) × (result ≢ Status.Unknown) }
 {
@@ -69,31 +67,30 @@ pub(crate) fn poll(
     request: &mut [u8; MOST_SLOTS],
     count: &mut usize,
 ) -> Status
-    ensures busy { (s : CollectorState) → IsIn endpoint.old s → ((result ≡ Status.Busy) ↔ IsSome s.collector.transaction) }
-    ensures sent { (s : CollectorState) → IsIn endpoint.old s → result ≡ Status.Done →
-        IsWritten count.new request.new (poll_request s.collector) }
-    ensures after { (s : CollectorState) → IsIn endpoint.old s → result ≡ Status.Done → IsIn endpoint.new (polled s) }
+    ensures busy { IfSome (collector_of endpoint.old) (λ s. (result ≡ Status.Busy) ↔ IsSome s.transaction) }
+    ensures sent { IfSome (collector_of endpoint.old) (λ s. result ≡ Status.Done →
+        IsWritten count.new request.new (poll_request (sender s))) }
+    ensures after { IfSome (collector_of endpoint.old) (λ s. result ≡ Status.Done →
+        collector_of endpoint.new ≡ Some (after_poll s)) }
     ensures same { result ≢ Status.Done → endpoint.new ≡ endpoint.old }
-    ensures absent { (result ≡ Status.Absent) ↔ (is_collector endpoint.old ≡ false) }
+    ensures absent { (result ≡ Status.Absent) ↔ (collector_of endpoint.old ≡ None) }
     ensures statuses { result ≢ Status.Done → result ≢ Status.Absent → result ≢ Status.Busy → result ≡ Status.OutOfMemory }
 {
     match endpoint {
-        Endpoint::Responder(_) | Endpoint::DeviceCollector(_) | Endpoint::Searcher(_) => {
-            Status::Absent
-        },
+        Endpoint::Responder(_) | Endpoint::Searcher(_) => Status::Absent,
         Endpoint::Collector(collector) => send_poll(collector, request, count),
     }
 }
 
 /// Sends a poll, as `poll`.
 fn send_poll(
-    collector: &mut RunningCollector,
+    collector: &mut DeviceCollector,
     request: &mut [u8; MOST_SLOTS],
     count: &mut usize,
 ) -> Status
-    ensures busy { (result ≡ Status.Busy) ↔ IsSome collector.old.collector.transaction }
-    ensures sent { result ≡ Status.Done → IsWritten count.new request.new (poll_request collector.old.collector) }
-    ensures after { result ≡ Status.Done → collector.new ≡ polled collector.old }
+    ensures busy { (result ≡ Status.Busy) ↔ IsSome collector.old.transaction }
+    ensures sent { result ≡ Status.Done → IsWritten count.new request.new (poll_request (sender collector.old)) }
+    ensures after { result ≡ Status.Done → collector.new ≡ after_poll collector.old }
     ensures same { result ≢ Status.Done → collector.new ≡ collector.old }
     ensures found { result ≢ Status.Absent }
     ensures statuses { result ≢ Status.Done → result ≢ Status.Busy → result ≡ Status.OutOfMemory }
@@ -109,18 +106,17 @@ fn send_poll(
 }
 
 /// Hears bytes, and tells what they are taken for.
-pub(crate) fn hear(endpoint: &mut Endpoint, bytes: &[u8], heard: &mut u8) -> Status
-    ensures status { result ≡ found (is_collector endpoint.old) }
-    ensures heard { (s : CollectorState) → IsIn endpoint.old s → heard.new ≡ heard_code (heard_in s.collector bytes.now) }
-    ensures after { (s : CollectorState) → IsIn endpoint.old s → IsIn endpoint.new (listened s bytes.now) }
+pub(crate) fn hear(endpoint: &mut Endpoint, bytes: &[u8], heard: &mut HeardNumbers) -> Status
+    ensures status { result ≡ found (is_some (collector_of endpoint.old)) }
+    ensures heard { IfSome (collector_of endpoint.old) (λ s. heard.new ≡ heard_numbers (heard_in s bytes.now)) }
+    ensures after { IfSome (collector_of endpoint.old) (λ s.
+        collector_of endpoint.new ≡ Some (after_hearing s bytes.now)) }
     ensures absent { result ≢ Status.Done → endpoint.new ≡ endpoint.old }
 {
     match endpoint {
-        Endpoint::Responder(_) | Endpoint::DeviceCollector(_) | Endpoint::Searcher(_) => {
-            Status::Absent
-        },
+        Endpoint::Responder(_) | Endpoint::Searcher(_) => Status::Absent,
         Endpoint::Collector(collector) => {
-            *heard = heard_code(collector.hear(bytes));
+            *heard = HeardNumbers::of(collector.hear(bytes));
             Status::Done
         }
     }
@@ -128,14 +124,12 @@ pub(crate) fn hear(endpoint: &mut Endpoint, bytes: &[u8], heard: &mut u8) -> Sta
 
 /// Ends the open transaction, if there is one, without an answer.
 pub(crate) fn over(endpoint: &mut Endpoint) -> Status
-    ensures status { result ≡ found (is_collector endpoint.old) }
-    ensures after { (s : CollectorState) → IsIn endpoint.old s → IsIn endpoint.new (ended s) }
+    ensures status { result ≡ found (is_some (collector_of endpoint.old)) }
+    ensures after { IfSome (collector_of endpoint.old) (λ s. collector_of endpoint.new ≡ Some (after_over s)) }
     ensures absent { result ≢ Status.Done → endpoint.new ≡ endpoint.old }
 {
     match endpoint {
-        Endpoint::Responder(_) | Endpoint::DeviceCollector(_) | Endpoint::Searcher(_) => {
-            Status::Absent
-        },
+        Endpoint::Responder(_) | Endpoint::Searcher(_) => Status::Absent,
         Endpoint::Collector(collector) => {
             collector.over();
             Status::Done
@@ -143,40 +137,33 @@ pub(crate) fn over(endpoint: &mut Endpoint) -> Status
     }
 }
 
-/// Takes the first message that was recorded, and tells of it.
+/// Takes the first of what was recorded, and tells of it.
 pub(crate) fn next(endpoint: &mut Endpoint, message: &mut MessageNumbers) -> Status
-    ensures next { (s : CollectorState) → IsIn endpoint.old s → MatchOption (slice_get s.collector.recorded 0) (result ≡ Status.NoMore)
-        (λ m. (result ≡ Status.Done) × (message_in message.new ≡ m)) }
-    ensures count { (s : CollectorState) → IsIn endpoint.old s →
-        IfSome (slice_get s.collector.recorded 0) (λ m. message.new.count ≡ length m.body) }
-    ensures repeat { (s : CollectorState) → IsIn endpoint.old s → result ≡ Status.Done →
-        message.new.may_repeat ≡ flag (may_repeat s) }
-    ensures after { (s : CollectorState) → IsIn endpoint.old s → result ≡ Status.Done → IsIn endpoint.new (taken s) }
-    ensures absent { (result ≡ Status.Absent) ↔ (is_collector endpoint.old ≡ false) }
+    ensures next { IfSome (collector_of endpoint.old) (λ s. MatchOption (slice_get s.recorded 0) (result ≡ Status.NoMore)
+        (λ c. (result ≡ Status.Done) × Tells message.new c)) }
+    ensures after { IfSome (collector_of endpoint.old) (λ s. result ≡ Status.Done →
+        collector_of endpoint.new ≡ Some (record s { recorded = drop 1 s.recorded })) }
+    ensures absent { (result ≡ Status.Absent) ↔ (collector_of endpoint.old ≡ None) }
     ensures same { result ≢ Status.Done → endpoint.new ≡ endpoint.old }
 {
     match endpoint {
-        Endpoint::Responder(_) | Endpoint::DeviceCollector(_) | Endpoint::Searcher(_) => {
-            Status::Absent
-        },
+        Endpoint::Responder(_) | Endpoint::Searcher(_) => Status::Absent,
         Endpoint::Collector(collector) => take_first(collector, message),
     }
 }
 
-/// Takes the first message, as `next`.
-fn take_first(collector: &mut RunningCollector, message: &mut MessageNumbers) -> Status
-    ensures next { MatchOption (slice_get collector.old.collector.recorded 0) (result ≡ Status.NoMore)
-        (λ m. (result ≡ Status.Done) × (message_in message.new ≡ m)) }
-    ensures count { IfSome (slice_get collector.old.collector.recorded 0) (λ m. message.new.count ≡ length m.body) }
-    ensures repeat { result ≡ Status.Done → message.new.may_repeat ≡ flag (may_repeat collector.old) }
-    ensures after { result ≡ Status.Done → collector.new ≡ taken collector.old }
+/// Takes the first of what was recorded, as `next`.
+fn take_first(collector: &mut DeviceCollector, message: &mut MessageNumbers) -> Status
+    ensures next { MatchOption (slice_get collector.old.recorded 0) (result ≡ Status.NoMore)
+        (λ c. (result ≡ Status.Done) × Tells message.new c) }
+    ensures after { result ≡ Status.Done → collector.new ≡ record collector.old { recorded = drop 1 collector.old.recorded } }
     ensures found { result ≢ Status.Absent }
     ensures same { result ≢ Status.Done → collector.new ≡ collector.old }
 {
     let Some(first) = collector.recorded().first() else {
         return Status::NoMore;
     };
-    message.tell(first, collector.may_repeat());
-    collector.forget_first();
+    message.tell(first);
+    collector.forget(1);
     Status::Done
 }

@@ -26,9 +26,7 @@ pub(crate) fn place(endpoint: &mut Endpoint, sub: u16, pid: u16, load: &[u8]) ->
 {
     match endpoint {
         Endpoint::Responder(running) => place_value(running, sub, pid, load),
-        Endpoint::Collector(_) | Endpoint::DeviceCollector(_) | Endpoint::Searcher(_) => {
-            Status::Absent
-        },
+        Endpoint::Collector(_) | Endpoint::Searcher(_) => Status::Absent,
     }
 }
 
@@ -64,8 +62,6 @@ pub(crate) fn note(endpoint: &mut Endpoint, entry: Entry, noted: &mut u8) -> Sta
             *noted = if running.responder.note(entry) { 1 } else { 0 };
             Status::Done
         }
-        Endpoint::Collector(_) | Endpoint::DeviceCollector(_) | Endpoint::Searcher(_) => {
-            Status::Absent
-        },
+        Endpoint::Collector(_) | Endpoint::Searcher(_) => Status::Absent,
     }
 }

@@ -42,7 +42,7 @@ pub(crate) fn step(
             hear(running, bytes, reply, stepped);
             Status::Done
         }
-        Endpoint::Collector(_) | Endpoint::DeviceCollector(_) | Endpoint::Searcher(_) => {
+        Endpoint::Collector(_) | Endpoint::Searcher(_) => {
             stepped.clear();
             Status::Absent
         }
@@ -88,9 +88,7 @@ pub(crate) fn arrive(
 {
     match endpoint {
         Endpoint::Responder(running) => take_report(running, job, report, kept),
-        Endpoint::Collector(_) | Endpoint::DeviceCollector(_) | Endpoint::Searcher(_) => {
-            Status::Absent
-        },
+        Endpoint::Collector(_) | Endpoint::Searcher(_) => Status::Absent,
     }
 }
 
@@ -133,9 +131,7 @@ pub(crate) fn change(endpoint: &mut Endpoint, change: Change) -> Status
 {
     match endpoint {
         Endpoint::Responder(running) => take_change(running, change),
-        Endpoint::Collector(_) | Endpoint::DeviceCollector(_) | Endpoint::Searcher(_) => {
-            Status::Absent
-        },
+        Endpoint::Collector(_) | Endpoint::Searcher(_) => Status::Absent,
     }
 }
 

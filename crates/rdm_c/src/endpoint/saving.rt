@@ -60,9 +60,7 @@ pub(crate) fn restore(endpoint: &mut Endpoint, image: &[u8]) -> Status
 {
     match endpoint {
         Endpoint::Responder(running) => restore_values(running, image),
-        Endpoint::Collector(_) | Endpoint::DeviceCollector(_) | Endpoint::Searcher(_) => {
-            Status::Absent
-        },
+        Endpoint::Collector(_) | Endpoint::Searcher(_) => Status::Absent,
     }
 }
 

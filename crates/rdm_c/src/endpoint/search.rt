@@ -45,9 +45,7 @@ pub(crate) fn hear(endpoint: &mut Endpoint, bytes: &[u8]) -> Status
     ensures statuses { result ≢ Status.Done → result ≢ Status.Absent → result ≡ Status.OutOfMemory }
 {
     match endpoint {
-        Endpoint::Responder(_) | Endpoint::Collector(_) | Endpoint::DeviceCollector(_) => {
-            Status::Absent
-        },
+        Endpoint::Responder(_) | Endpoint::Collector(_) => Status::Absent,
         // No transaction is asked for here, so that want of memory is all that can be in the way.
         Endpoint::Searcher(search) => match search.hear(bytes) {
             Ok(()) => Status::Done,
@@ -63,9 +61,7 @@ pub(crate) fn resume(endpoint: &mut Endpoint, limit: u32) -> Status
     ensures same { search_of endpoint.old ≡ None → endpoint.new ≡ endpoint.old }
 {
     match endpoint {
-        Endpoint::Responder(_) | Endpoint::Collector(_) | Endpoint::DeviceCollector(_) => {
-            Status::Absent
-        },
+        Endpoint::Responder(_) | Endpoint::Collector(_) => Status::Absent,
         Endpoint::Searcher(search) => {
             search.resume(limit);
             Status::Done

@@ -10,7 +10,7 @@ ghost use Rattle.rdm_collector.specs.AnyDevice.Collecting.{new_device_collector,
 
 use crate::any_device::collected::{Collected, record_of};
 use crate::any_device::heard::{DeviceHeard, Taken, poll_heard, taken_for};
-use crate::command::Command;
+use crate::command::{Command, queued_message, request_of};
 use crate::record::{forget, make_room};
 use crate::reply::Response;
 use crate::sender::{AskError, PollError, Sender};
@@ -71,7 +71,9 @@ impl DeviceCollector {
         ensures new { OnOk result (self.new ≡ after_ask self.old command.now) }
         ensures err { OnErr result (self.new ≡ self.old) }
     {
-        self.sender.ask(command)
+        let tn = self.sender.open_command(command)?;
+        let (uid, _) = self.sender.uids();
+        Ok(request_of(uid, tn, command))
     }
 
     /// Sends a poll: gives the bytes of a request for the target's next message, and opens its transaction. If the
@@ -89,7 +91,9 @@ impl DeviceCollector {
         make_room(&mut self.recorded, self.sender.is_open())?;
         self.again = self.sender.is_unanswered();
         self.lost = self.lost || self.again;
-        self.sender.poll()
+        let (tn, status_type) = self.sender.open_poll()?;
+        let (uid, target) = self.sender.uids();
+        Ok(request_of(uid, tn, &queued_message(target, status_type)))
     }
 
     /// Hears bytes, and says what they are taken for. A frame from the target to this collector in the open

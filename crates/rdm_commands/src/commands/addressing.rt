@@ -1,6 +1,6 @@
 //! The devices that a command is for.
 
-ghost use Rattle.std.specs.Prelude.{◌≡◌, Some, slice_get};
+ghost use Rattle.std.specs.Prelude.{◌≡◌, ◌≤◌, IsTrue, Some, length, slice_get};
 ghost use Rattle.std.specs.List.{list_all};
 ghost use Rattle.std.specs.Option.{option_map};
 ghost use Rattle.rdm_table.specs.declared.kind.Verb.TheVariants.{Get};
@@ -20,9 +20,23 @@ impl Devices {
     #[inline(always)]
     #[tactic(auto, using(crate::proofs::Places::is_there, crate::proofs::Places::is_not_there))]
     pub(super) fn has_device(&self, sub: u16) -> bool
-        ensures { result ≡ is_some_device (addressed self.now sub Get) }
+        ensures there { result ≡ is_some_device (addressed self.now sub Get) }
+        ensures within { IsTrue result → sub ≤ length self.now.subs }
     {
         usize::from(sub) <= self.subs.len()
+    }
+
+    /// The device that a GET is for, where `has_device` said that there is one.
+    #[inline(always)]
+    #[tactic(auto, using(crate::proofs::Places::first_of_one))]
+    pub(super) fn place_of(&self, sub: u16) -> Place<'_>
+        requires { sub ≤ length self.now.subs }
+        ensures { slice_get (addressed self.now sub Get) 0 ≡ Some result }
+    {
+        if sub == 0 {
+            return self.root_place();
+        }
+        Place::of_sub(&self.profile, &self.subs[usize::from(sub) - 1])
     }
 
     /// The first device that a command is for, if there is one.

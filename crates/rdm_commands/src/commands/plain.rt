@@ -1,9 +1,9 @@
 //! GETs that hand in no data and are answered at once, as most are.
 
-ghost use Rattle.std.specs.Prelude.{◌≡◌, ◌≢◌, true, [], Err, IfOk, IfErr};
+ghost use Rattle.std.specs.Prelude.{◌≡◌, ◌≢◌, ◌≤◌, length, true, [], Err, IfOk, IfErr};
 ghost use Rattle.rdm_table.specs.declared.kind.Verb.TheVariants.{Get};
 ghost use Rattle.rdm_table.specs.declared.way.Way.TheVariants.{AtOnce};
-ghost use Rattle.rdm_commands.specs.Commands.Commands.{addressed, is_some_device, read_data, verdict};
+ghost use Rattle.rdm_commands.specs.Commands.Commands.{read_data, verdict};
 ghost use Rattle.rdm_table.specs.Table.Rows.{command_of};
 ghost use Rattle.rdm_table.specs.Table.Kinds.{pid_of};
 ghost use Rattle.rdm_table.specs.Table.Uses.{is_bare, way_of};
@@ -12,7 +12,7 @@ ghost use Rattle.rdm_commands.specs.Views.Verdicts.{verdict_with, NamesItsJob};
 use super::Devices;
 use crate::Answer;
 use rdm_frame::{Body, Nack};
-use rdm_table::{Kind, Verb, state_into};
+use rdm_table::{Kind, state_into};
 
 impl Devices {
     /// What such a GET answers, or the first reason to reject it, if this is the first device that it is for.
@@ -27,7 +27,7 @@ impl Devices {
         body: &mut Body,
     ) -> Result<Answer, Nack>
         requires empty { body.old ≡ [] }
-        requires some { is_some_device (addressed self.now sub Get) ≡ true }
+        requires some { sub ≤ length self.now.subs }
         requires bare { is_bare (command_of (pid_of kind) Get) ≡ true }
         requires way { way_of (command_of (pid_of kind) Get) ≡ AtOnce }
         ensures ok { IfOk result (λ answer. verdict_with answer body.new
@@ -39,10 +39,7 @@ impl Devices {
         if !data.is_empty() {
             return Err(Nack::FormatError);
         }
-        let Some(place) = self.first_place(sub, Verb::Get) else {
-            return Err(Nack::SubDeviceOutOfRange);
-        };
-        state_into(kind, &place, body);
+        state_into(kind, &self.place_of(sub), body);
         Ok(Answer::Done)
     }
 }

@@ -7,7 +7,7 @@ ghost use Rattle.rdm_crew.specs.RunTrace.{HaveFaults};
 ghost use Rattle.rdm_script.specs.declared.script.ScriptSetup.{ScriptSetup as TheSetup};
 ghost use Rattle.rdm_script.specs.Dialects.{strict};
 ghost use Rattle.rdm_script.specs.Parties.{demo_device, plain_setup};
-ghost use Rattle.rdm_script.specs.Grammar.{words_of, line_at, begun_after, said_by, lines_of, setup_after, steps_of_line, AreSaid, IsFirstFaulty, IsRead, Refuses};
+ghost use Rattle.rdm_script.specs.Grammar.{words_of, line_at, begun_after, said_by, lines_of, setup_after, steps_of_line, AreSaid, IsFirstFaulty, Refuses};
 ghost use Rattle.rdm_script.specs.Search.{most_steps, search_of};
 ghost use Rattle.rdm_script.specs.Spelling.{IsScript};
 ghost use Rattle.rdm_script.specs.StepLines.{step_line, set_line, step_lines, setup_line};
@@ -124,20 +124,6 @@ pub fn parse_as(alloc: Global, dialect: &Dialect<'_>, text: &[u8]) -> Result<Scr
     // It knows whether a line says a search.
     ensures finds { IfOk result (λ script. script.finds ≡ finds_of dialect.now text.now) }
 {
-    read_script(alloc, dialect, text)
-}
-
-/// The script that the bytes are, as the reader sees it.
-fn read_script(alloc: Global, dialect: &Dialect<'_>, text: &[u8]) -> Result<Script, ScriptError>
-    ensures ok { IfOk result (λ script. IsRead dialect.now text.now script.setup script.steps.items) }
-    ensures only { (setup : TheSetup) (steps : List TheStep) → IsRead dialect.now text.now setup steps →
-        MatchResult result (λ script. (script.setup ≡ setup) × (script.steps.items ≡ steps)) (λ e. e ≡ OutOfMemory) }
-    ensures err { IfErr result (λ e. Refuses dialect.now e text.now) }
-    ensures too_long { 65536 < length text.now → result ≡ Err ScriptError.TooLong }
-    ensures lines { IfOk result (λ script. script.lines.items ≡ step_lines dialect.now text.now) }
-    ensures setup_line { IfOk result (λ script. script.setup_line ≡ setup_line dialect.now text.now) }
-    ensures finds { IfOk result (λ script. script.finds ≡ finds_of dialect.now text.now) }
-{
     if text.len() > MOST_BYTES {
         return Err(ScriptError::TooLong);
     }
@@ -223,16 +209,22 @@ fn read_line(
     requires lines_room { vec_len script.old.lines + most_steps dialect.now.spelling ≤ vec_capacity script.old.lines }
     ensures sound { OnOk result (line_at dialect.now begun (words_of dialect.now.spelling line.now) ≢ Faulty) }
     ensures begun { IfOk result (λ now. now ≡ begun_after begun (line_at dialect.now begun (words_of dialect.now.spelling line.now))) }
-    ensures setup { OnOk result (script.new.setup ≡ setup_after script.old.setup (line_at dialect.now begun (words_of dialect.now.spelling line.now))) }
-    ensures steps { OnOk result (script.new.steps.items ≡ script.old.steps.items ++ steps_of_line (line_at dialect.now begun (words_of dialect.now.spelling line.now))) }
+    ensures setup { OnOk result (script.new.setup ≡ setup_after script.old.setup
+        (line_at dialect.now begun (words_of dialect.now.spelling line.now))) }
+    ensures steps { OnOk result (script.new.steps.items ≡ script.old.steps.items ++ steps_of_line
+        (line_at dialect.now begun (words_of dialect.now.spelling line.now))) }
     ensures len { vec_len script.new.steps ≤ vec_len script.old.steps + most_steps dialect.now.spelling }
     ensures capacity { vec_capacity script.new.steps ≡ vec_capacity script.old.steps }
-    ensures lines { OnOk result (script.new.lines.items ≡ script.old.lines.items ++ step_line (index + 1) (line_at dialect.now begun (words_of dialect.now.spelling line.now))) }
+    ensures lines { OnOk result (script.new.lines.items ≡ script.old.lines.items ++ step_line (index + 1)
+        (line_at dialect.now begun (words_of dialect.now.spelling line.now))) }
     ensures lines_len { vec_len script.new.lines ≤ vec_len script.old.lines + most_steps dialect.now.spelling }
     ensures lines_capacity { vec_capacity script.new.lines ≡ vec_capacity script.old.lines }
-    ensures setup_line { OnOk result (script.new.setup_line ≡ option_or script.old.setup_line (set_line (index + 1) (line_at dialect.now begun (words_of dialect.now.spelling line.now)))) }
-    ensures finds { OnOk result (script.new.finds ≡ finds_after script.old.finds (line_at dialect.now begun (words_of dialect.now.spelling line.now))) }
-    ensures err { IfErr result (λ fault. (fault.0 ≡ index + 1) × (line_at dialect.now begun (words_of dialect.now.spelling line.now) ≡ Faulty)) }
+    ensures setup_line { OnOk result (script.new.setup_line ≡ option_or script.old.setup_line (set_line (index + 1)
+        (line_at dialect.now begun (words_of dialect.now.spelling line.now)))) }
+    ensures finds { OnOk result (script.new.finds ≡ finds_after script.old.finds
+        (line_at dialect.now begun (words_of dialect.now.spelling line.now))) }
+    ensures err { IfErr result (λ fault. (fault.0 ≡ index + 1)
+        × (line_at dialect.now begun (words_of dialect.now.spelling line.now) ≡ Faulty)) }
 {
     match line_of(dialect, line, begun) {
         Line::Skipped => Ok(begun),

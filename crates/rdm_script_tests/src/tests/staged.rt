@@ -8,8 +8,9 @@ use rdm_frame::Uid;
 use rdm_outcomes::{Rule, Task};
 use rdm_params::{Outcome, Profile, Severity};
 use rdm_script::{
-    DemoPanel, ProgramError, RuledPart, Spelling, Stage, ruled_parts_fit, run_script_on,
+    DemoPanel, ProgramError, RuledPart, Spelling, Stage, play_script, ruled_parts_fit,
 };
+use rdm_trace::text_of;
 use std::alloc::Global;
 use std::process::Abort;
 use std::sync::Wait;
@@ -158,9 +159,10 @@ where
     T: Threads + Wait + Abort + Copy + Send + 'static,
 {
     ruled_parts_fit();
-    let mut reader = script.as_bytes();
-    let mut written = Vec::new(alloc);
-    let outcome = run_script_on(rt, alloc, &mut reader, &mut written, stage);
+    let (outcome, written) = match play_script(rt, alloc, script.as_bytes(), stage) {
+        Ok(lines) => (Ok(()), text_of(alloc, &lines).expect(&rt, "memory")),
+        Err(why) => (Err(ProgramError::from(why)), Vec::new(alloc)),
+    };
     assert_eq!(rt; outcome, outcome_of(ends), "{script:?}");
     assert!(rt; is_written(&written, ends), "{script:?} {written:?}");
 }

@@ -3,6 +3,7 @@
 ghost use Rattle.std.specs.Prelude.{◌≡◌, ◌↔◌, ◌==◌, false};
 ghost use Rattle.rdm_table.specs.Table.Kinds.{pid_of};
 ghost use Rattle.rdm_added.specs.Spot.{Spot};
+ghost use Rattle.rdm_profile.specs.declared.value.Value.{Value};
 ghost use Rattle.rdm_added.specs.Map.{update};
 ghost use Rattle.rdm_added.specs.Views.State.{common_entries, own_entries, added_entries};
 ghost use Rattle.rdm_table.specs.declared.kind.Verb.TheVariants.{Set};
@@ -78,23 +79,6 @@ macro_rules! write_own {
     };
 }
 
-macro_rules! factory_rows {
-    (($kind:ident) $(($name:ident $pid:tt $at:ident $get:tt $set:tt))*) => {
-        match $kind {
-            $(Kind::$name => sets_back!($name),)*
-        }
-    };
-}
-
-macro_rules! sets_back {
-    (FactoryDefaults) => {
-        true
-    };
-    ($name:ident) => {
-        false
-    };
-}
-
 /// Writes what a SET writes of the values that every device keeps, at one that has these values of the maker's own parameters, and says
 /// whether that changed one.
 // Inlined, since a call would save and restore the registers of a SET, and of each sub-device in a SET of all.
@@ -130,18 +114,12 @@ pub fn store_own(kind: Kind, value: &Argument<'_>, profile: &Profile, own: &mut 
 /// Writes what a SET of the table writes of the parameters that the maker adds, and says whether that changed a value.
 #[inline(always)]
 #[tactic(auto, using(crate::proofs::FactoryRows::set_back_by_factory, crate::proofs::FactoryRows::left_by_others))]
-pub fn store_added(
-    kind: Kind,
-    value: &Argument<'_>,
-    profile: &Profile,
-    own: &mut RootValues,
-) -> bool
+pub fn store_added(kind: Kind, profile: &Profile, own: &mut RootValues) -> bool
     ensures own { own_entries own.new ≡ own_entries own.old }
-    ensures after { (spot : Spot) → spot.profile ≡ profile.now → spot.added ≡ added_entries own.old.added.items
-        → added_entries own.new.added.items ≡ update (added_change (command_of (pid_of kind) Set) spot value.now) (added_entries own.old.added.items) }
+    ensures after { (spot : Spot) (value : Value) → spot.profile ≡ profile.now → spot.added ≡ added_entries own.old.added.items
+        → added_entries own.new.added.items ≡ update (added_change (command_of (pid_of kind) Set) spot value) (added_entries own.old.added.items) }
     ensures same { (result ≡ false) ↔ (added_entries own.new.added.items ≡ added_entries own.old.added.items) }
 {
-    let _ = value;
     if is_factory_defaults(kind) {
         added::set_added_back(profile, own)
     } else {
@@ -154,5 +132,5 @@ pub fn store_added(
 fn is_factory_defaults(kind: Kind) -> bool
     ensures { result ≡ (pid_of kind == 0x0090) }
 {
-    rows!(factory_rows!(kind))
+    kind.pid() == Kind::FactoryDefaults.pid()
 }

@@ -1,5 +1,8 @@
 //! How parameter data are laid out.
 
+ghost use Rattle.std.specs.Prelude.{◌≡◌};
+ghost use Rattle.rdm_words.specs.LaidOut.{fields_of, fits};
+
 use crate::tables::Table;
 
 /// What stands before the words of the data, if their words don't say what they are, and how they are laid out.
@@ -21,8 +24,8 @@ pub(crate) enum Form {
     Fields(Record),
     /// The fields of the first record, of which the second one is said in a picture.
     InShort(Record, Record),
-    /// The fields of the record, or of the first of the others that has as many slots as the data.
-    OneOf(Record, &'static [Record]),
+    /// The fields of the first record, or of the first of the others that has as many slots as the data.
+    OneOf(Record, Record, Record),
     /// Languages, of two letters each (sections 10.5.7 and 10.5.8).
     Languages,
     /// A list.
@@ -53,7 +56,9 @@ pub(crate) enum Record {
 
 impl Record {
     /// Whether data have its slots.
-    pub(crate) fn fits(self, data: &[u8]) -> bool {
+    pub(crate) fn fits(self, data: &[u8]) -> bool
+        ensures { result ≡ fits self data.now }
+    {
         match self {
             Record::Exactly(slots, _) => data.len() == slots,
             Record::AtLeast(slots, _) => data.len() >= slots,
@@ -61,7 +66,9 @@ impl Record {
     }
 
     /// Its fields.
-    pub(crate) fn fields(self) -> &'static [Field] {
+    pub(crate) fn fields(self) -> &'static [Field]
+        ensures { result.now ≡ fields_of self }
+    {
         match self {
             Record::Exactly(_, fields) | Record::AtLeast(_, fields) => fields,
         }

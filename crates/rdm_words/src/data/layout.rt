@@ -1,7 +1,10 @@
 //! Which data a parameter has in its requests and in its replies (E1.20 section 10).
 
-ghost use Rattle.std.specs.Prelude.{◌≡◌, ◌≢◌, true, None};
+ghost use Rattle.std.specs.Prelude.{◌≡◌, ◌≢◌, ℕ, List as ListOf, true, Some, None};
 ghost use Rattle.rdm_params.specs.Table.Rows.{row_of};
+ghost use Rattle.rdm_words.specs.DataFacts.{asked_facts, data_facts, discovery_facts, done_facts, kind_facts, set_facts, told_facts, value_facts};
+ghost use Rattle.rdm_words.specs.FieldFacts.{as_data};
+ghost use Rattle.rdm_words.specs.LaidOut.{layout_facts};
 ghost use Rattle.rdm_words.specs.Unread.{is_discovery};
 
 use crate::data::form::{Form, Layout, List};
@@ -10,12 +13,12 @@ use crate::data::records::{
     SELF_TEST, SELF_TEST_TEXT, SENSOR, SENSOR_DEFINITION, SENSOR_EXTREMES, SENSOR_NAME,
     SENSOR_RECORDED, SENSOR_VALUE, SLOT, SLOT_TEXT, START_ADDRESS, STATUS_ID, TEXT, VERSION,
 };
-use crate::frame::class::Class;
 use crate::tables::settings::{
     DISPLAY_INVERSIONS, LAMP_ON_MODES, LAMP_STATES, POWER_STATES, SWITCHES, TRUTHS,
 };
 use rdm_frame::standard::{
     DISC_MUTE, DISC_UN_MUTE, DISC_UNIQUE_BRANCH, DISCOVERY_COMMAND, DISCOVERY_COMMAND_RESPONSE,
+    GET_COMMAND, GET_COMMAND_RESPONSE, SET_COMMAND, SET_COMMAND_RESPONSE,
 };
 use rdm_params::{Kind, kind_of};
 
@@ -28,38 +31,39 @@ const SHOWN: Layout = Layout("", Form::Shown);
 /// What a sensor has measured, with which values it keeps or without.
 const MEASURED: Layout = Layout(
     "",
-    Form::OneOf(SENSOR_VALUE, &[SENSOR_RECORDED, SENSOR_EXTREMES]),
+    Form::OneOf(SENSOR_VALUE, SENSOR_RECORDED, SENSOR_EXTREMES),
 );
 
 /// The data of a parameter in frames of the command class with this code. If the class or the parameter isn't known there is
 /// no layout, and the data are shown as they are.
 pub(crate) fn layout_of(code: u8, pid: u16) -> Option<Layout>
     ensures unknown { is_discovery code ≢ true → row_of pid ≡ None → result ≡ None }
+    ensures facts { (d : ListOf ℕ) → layout_facts result d ≡ data_facts code pid d }
 {
-    let class = Class::of(code)?;
     match kind_of(pid) {
-        Some(kind) => Some(known_layout(class, kind)),
+        Some(kind) => known_layout(code, kind),
         None => discovery_layout(code, pid),
     }
 }
 
 /// The data of a parameter of the table.
-fn known_layout(class: Class, kind: Kind) -> Layout {
-    match class {
-        Class::Get => get_layout(kind),
-        Class::GetResponse => get_reply_layout(kind),
-        Class::Set => set_layout(kind),
-        Class::SetResponse => match kind {
-            Kind::SensorValue => MEASURED,
-            _ => NOTHING,
-        },
-        Class::Discovery | Class::DiscoveryResponse => SHOWN,
+fn known_layout(code: u8, kind: Kind) -> Option<Layout>
+    ensures { (d : ListOf ℕ) → layout_facts result d ≡ kind_facts code kind d }
+{
+    match code {
+        GET_COMMAND => Some(get_layout(kind)),
+        GET_COMMAND_RESPONSE => Some(get_reply_layout(kind)),
+        SET_COMMAND => Some(set_layout(kind)),
+        SET_COMMAND_RESPONSE => Some(set_reply_layout(kind)),
+        DISCOVERY_COMMAND | DISCOVERY_COMMAND_RESPONSE => Some(SHOWN),
+        _ => None,
     }
 }
 
 /// The data of a parameter of discovery.
 fn discovery_layout(code: u8, pid: u16) -> Option<Layout>
-    ensures { is_discovery code ≢ true → result ≡ None }
+    ensures unknown { is_discovery code ≢ true → result ≡ None }
+    ensures facts { (d : ListOf ℕ) → layout_facts result d ≡ discovery_facts code pid d }
 {
     if code == DISCOVERY_COMMAND && pid == DISC_UNIQUE_BRANCH {
         return Some(Layout("", Form::Fields(BRANCH)));
@@ -71,7 +75,9 @@ fn discovery_layout(code: u8, pid: u16) -> Option<Layout>
 }
 
 /// The data of a GET.
-fn get_layout(kind: Kind) -> Layout {
+fn get_layout(kind: Kind) -> Layout
+    ensures { (d : ListOf ℕ) → layout_facts (Some result) d ≡ asked_facts kind d }
+{
     match kind {
         Kind::QueuedMessage | Kind::StatusMessages => Layout("status type", Form::StatusType),
         Kind::StatusIdDescription => Layout("", Form::Fields(STATUS_ID)),
@@ -84,7 +90,9 @@ fn get_layout(kind: Kind) -> Layout {
 }
 
 /// The data of a SET.
-fn set_layout(kind: Kind) -> Layout {
+fn set_layout(kind: Kind) -> Layout
+    ensures { (d : ListOf ℕ) → layout_facts (Some result) d ≡ set_facts kind d }
+{
     match kind {
         Kind::FactoryDefaults | Kind::ClearStatusId => NOTHING,
         Kind::DmxPersonality => Layout("personality", Form::Fields(NUMBER)),
@@ -94,8 +102,20 @@ fn set_layout(kind: Kind) -> Layout {
     }
 }
 
+/// The data of a response to a SET.
+fn set_reply_layout(kind: Kind) -> Layout
+    ensures { (d : ListOf ℕ) → layout_facts (Some result) d ≡ done_facts kind d }
+{
+    match kind {
+        Kind::SensorValue => MEASURED,
+        _ => NOTHING,
+    }
+}
+
 /// The data of a response to a GET.
-fn get_reply_layout(kind: Kind) -> Layout {
+fn get_reply_layout(kind: Kind) -> Layout
+    ensures { (d : ListOf ℕ) → layout_facts (Some result) d ≡ told_facts kind d }
+{
     match kind {
         Kind::FactoryDefaults => Layout("factory defaults in use", Form::Code(TRUTHS)),
         Kind::DmxPersonality => Layout("", Form::Fields(PERSONALITY)),
@@ -115,7 +135,9 @@ fn get_reply_layout(kind: Kind) -> Layout {
 }
 
 /// The value of a parameter, if a GET reads it as a SET writes it.
-fn value_layout(kind: Kind) -> Layout {
+fn value_layout(kind: Kind) -> Layout
+    ensures { (d : ListOf ℕ) → layout_facts (Some result) d ≡ value_facts kind d }
+{
     match kind {
         Kind::StatusIdDescription => Layout("status text", Form::Fields(TEXT)),
         Kind::DeviceModelDescription => Layout("device model description", Form::Fields(TEXT)),
@@ -138,7 +160,9 @@ fn value_layout(kind: Kind) -> Layout {
 }
 
 /// The same of a parameter whose value is a number of a table.
-fn code_layout(kind: Kind) -> Layout {
+fn code_layout(kind: Kind) -> Layout
+    ensures { (d : ListOf ℕ) → layout_facts (Some result) d ≡ as_data d }
+{
     match kind {
         Kind::SubDeviceStatusReportThreshold => Layout("report threshold", Form::StatusType),
         Kind::LampState => Layout("lamp state", Form::Code(LAMP_STATES)),

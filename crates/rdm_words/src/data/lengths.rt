@@ -18,7 +18,7 @@ enum Slots {
     Unknown,
 }
 
-/// Says on a line of its own that data of a parameter haven't its length, if that is so.
+/// Says that data of a parameter haven't its length, if that is so.
 pub(crate) fn put_wrong_length(
     text: &mut String,
     pid: u16,
@@ -31,7 +31,7 @@ pub(crate) fn put_wrong_length(
     put_counts(text, pid, slots_in(form), data.len())
 }
 
-/// Says on a line of its own how many slots data of a parameter have that aren't those of a record, and how many that has.
+/// Says how many slots data of a parameter have that aren't those of a record, and how many that has.
 pub(crate) fn put_other_length(
     text: &mut String,
     pid: u16,
@@ -47,9 +47,8 @@ fn slots_in(form: Form) -> Slots {
         Form::Nothing => Slots::Exactly(0),
         Form::Shown => Slots::Unknown,
         Form::Code(_) | Form::StatusType => Slots::Exactly(1),
-        Form::Fields(record) | Form::InShort(record, _) | Form::OneOf(record, _) => slots_of_record(
-            record,
-        ),
+        Form::Fields(record) | Form::InShort(record, _) | Form::OneOf(record, _, _) =>
+            slots_of_record(record),
         Form::Languages => Slots::Each(2),
         Form::List(list) => Slots::Each(slots_of(list)),
     }
@@ -65,8 +64,8 @@ fn slots_of_record(record: Record) -> Slots {
 
 /// Whether data have the length of what they are laid out as.
 fn fits(form: Form, data: &[u8]) -> bool {
-    if let Form::OneOf(_, others) = form {
-        if others.iter().any(|record| record.fits(data)) {
+    if let Form::OneOf(_, first, second) = form {
+        if first.fits(data) || second.fits(data) {
             return true;
         }
     }
@@ -82,9 +81,9 @@ fn fits(form: Form, data: &[u8]) -> bool {
 /// How many slots data have, and how many those of the parameter have.
 fn put_counts(text: &mut String, pid: u16, slots: Slots, count: usize) -> Result<(), AllocError> {
     match count {
-        0 => text.push_str("\n  no data slots")?,
-        1 => text.push_str("\n  1 data slot")?,
-        _ => write!(text, "\n  {count} data slots")?,
+        0 => text.push_str("no data slots")?,
+        1 => text.push_str("1 data slot")?,
+        _ => write!(text, "{count} data slots")?,
     }
     write!(text, " where {pid:04X} has ")?;
     match slots {

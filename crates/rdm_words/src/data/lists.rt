@@ -1,6 +1,8 @@
 //! The words of parameter data that are a list.
 
-ghost use Rattle.std.specs.Prelude.{◌<◌};
+ghost use Rattle.std.specs.Prelude.{◌≡◌, ◌<◌, ℕ, List as ListOf, [], OnOk, drop, take, string_bytes};
+ghost use Rattle.rdm_words.specs.LaidOut.{entry_facts, entry_slots, laid_facts, list_facts};
+ghost use Rattle.rdm_words.specs.Naming.{AddsNames, PutsFacts};
 
 use crate::data::form::{List, Record};
 use crate::data::known::Facts;
@@ -15,16 +17,66 @@ pub(crate) fn put_entries(
     list: List,
     data: &[u8],
     known: &Facts<'_>,
-) -> Result<(), AllocError> {
+) -> Result<(), AllocError>
+    ensures { OnOk result (PutsFacts (list_facts list data.now) (string_bytes text.old) (string_bytes text.new)) }
+{
     if data.is_empty() {
-        text.push_str("\n  ")?;
-        return put_count_of(text, list, data);
+        return put_no_entries(text, list, data);
     }
-    for entry in data.chunks(slots_of(list)) {
-        text.push_str("\n  ")?;
-        put_record(text, "", record_of(list), entry, known)?;
+    let (entry, rest) = first_entry(data, slots_of(list));
+    put_record(text, "", record_of(list), entry, known)?;
+    put_more_entries(text, list, rest, known)
+}
+
+/// That a list has no entries.
+fn put_no_entries(text: &mut String, list: List, data: &[u8]) -> Result<(), AllocError>
+    ensures { OnOk result (PutsFacts [] (string_bytes text.old) (string_bytes text.new)) }
+{
+    let mut words = String::new(*text.allocator());
+    put_count_of(&mut words, list, data)?;
+    text.push_str(words.as_str())
+}
+
+/// The first entry of so many slots, and what follows it.
+pub(crate) fn first_entry(data: &[u8], slots: usize) -> (&[u8], &[u8])
+    ensures entry { result.0.now ≡ take slots data.now }
+    ensures rest { result.1.now ≡ drop slots data.now }
+{
+    match data.split_at_checked(slots) {
+        Some(parts) => parts,
+        None => (data, &[]),
+    }
+}
+
+/// The other entries, each on a line of its own.
+fn put_more_entries(
+    text: &mut String,
+    list: List,
+    data: &[u8],
+    known: &Facts<'_>,
+) -> Result<(), AllocError>
+    ensures { OnOk result (AddsNames (list_facts list data.now) (string_bytes text.old) (string_bytes text.new)) }
+{
+    let mut rest = data;
+    while !rest.is_empty() {
+        let (entry, more) = first_entry(rest, slots_of(list));
+        put_next_entry(text, list, entry, known)?;
+        rest = more;
     }
     Ok(())
+}
+
+/// An entry on a line of its own.
+fn put_next_entry(
+    text: &mut String,
+    list: List,
+    entry: &[u8],
+    known: &Facts<'_>,
+) -> Result<(), AllocError>
+    ensures { OnOk result (AddsNames (entry_facts list entry.now) (string_bytes text.old) (string_bytes text.new)) }
+{
+    text.push_str("\n  ")?;
+    put_record(text, "", record_of(list), entry, known)
 }
 
 /// How many entries a list has.
@@ -40,7 +92,8 @@ pub(crate) fn put_count_of(text: &mut String, list: List, data: &[u8]) -> Result
 
 /// How many slots an entry has.
 pub(crate) fn slots_of(list: List) -> usize
-    ensures { 0 < result }
+    ensures slots { result ≡ entry_slots list }
+    ensures some { 0 < result }
 {
     match list {
         List::Parameters => 2,
@@ -61,7 +114,9 @@ fn names_of(list: List) -> (&'static str, &'static str) {
 }
 
 /// What an entry has for fields.
-fn record_of(list: List) -> Record {
+fn record_of(list: List) -> Record
+    ensures { (d : ListOf ℕ) → laid_facts result d ≡ entry_facts list d }
+{
     match list {
         List::Parameters => SUPPORTED,
         List::Statuses => STATUS,

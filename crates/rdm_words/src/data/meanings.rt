@@ -1,12 +1,19 @@
 //! The words of fields that only some parameters have.
 
+ghost use Rattle.std.specs.Prelude.{◌≡◌, [], ◌∷◌, ◌++◌, OnOk, option_map, string_bytes};
+ghost use Rattle.rdm_frame.specs.Digits.{digits};
+ghost use Rattle.rdm_words.specs.FieldFacts.{as_parameter, as_place, as_slot_use, slot_use};
+ghost use Rattle.rdm_words.specs.LaidOut.{listed_words};
+ghost use Rattle.rdm_words.specs.Naming.{PutsFacts};
+
 use crate::data::form::Meaning;
 use crate::data::known::Facts;
-use crate::data::own::put_parameter;
-use crate::data::sensors::{put_measured, put_measures, put_range};
-use crate::data::statuses::{Status, put_failure, put_status_text};
+use crate::data::own::own_name;
+use crate::data::sensors::{put_measures, put_range};
+use crate::data::statuses::put_status_text;
 use crate::data::times::put_time_or_pin;
-use crate::data::values::{number_of, put_coded, put_data, put_named};
+use crate::data::values::{number_of, put_behind, put_coded, put_data, put_named};
+use crate::frame::header::word_in;
 use crate::frame::place::put_place;
 use crate::tables::Table;
 use crate::tables::parameters::parameter;
@@ -47,25 +54,8 @@ pub(crate) fn put_meaning(
     known: &Facts<'_>,
 ) -> Result<(), AllocError> {
     match (meaning, slots) {
-        (Meaning::Signed, [a, b]) => {
-            let number = i16::from_be_bytes([*a, *b]);
-            write!(text, "{number}")
-        }
-        (Meaning::Parameter, [a, b]) => {
-            put_parameter_code(text, u16::from_be_bytes([*a, *b]), slots, known)
-        }
-        (Meaning::Place, [a, b]) => put_place(text, u16::from_be_bytes([*a, *b])),
         (Meaning::StatusText, [a, b]) => {
             put_status_text(text, u16::from_be_bytes([*a, *b]), known)
-        }
-        (Meaning::Failure, [severity, a, b, c, d, e, f]) => {
-            let status = Status {
-                severity: *severity,
-                id: u16::from_be_bytes([*a, *b]),
-                first: u16::from_be_bytes([*c, *d]),
-                second: u16::from_be_bytes([*e, *f]),
-            };
-            put_failure(text, &status, known)
         }
         (Meaning::Measures, [unit, prefix, a, b, c, d]) => {
             let low = i16::from_be_bytes([*a, *b]);
@@ -75,35 +65,60 @@ pub(crate) fn put_meaning(
             let low = i16::from_be_bytes([*a, *b]);
             put_range(text, low, i16::from_be_bytes([*c, *d]))
         }
-        (Meaning::Measured, [number, a, b]) => {
-            put_measured(text, *number, i16::from_be_bytes([*a, *b]), known)
-        }
         (Meaning::LockName, [state]) => put_lock_name(text, *state, known),
         _ => put_rare(text, meaning, slots),
     }
 }
 
-/// A parameter by its name, if the standard or the fixture has one, and its number.
-fn put_parameter_code(
+/// A parameter of a list by its name, if the standard or the fixture has one, and its two slots.
+#[tactic(auto, using(crate::proofs::Reports::other_listed, crate::proofs::Reports::listed_put))]
+pub(crate) fn put_listed(
     text: &mut String,
-    pid: u16,
     slots: &[u8],
     known: &Facts<'_>,
-) -> Result<(), AllocError> {
-    match (parameter(pid), known.parameter(pid)) {
-        (None, Some(_)) => put_parameter(text, pid, known),
+) -> Result<(), AllocError>
+    ensures { OnOk result (PutsFacts (as_parameter slots.now) (string_bytes text.old) (string_bytes text.new)) }
+{
+    if slots.len() != 2 {
+        return put_data(text, slots);
+    }
+    let pid = word_in(slots);
+    put_listed_by(text, parameter(pid), own_name(pid, known), slots)
+}
+
+/// The same by its names.
+fn put_listed_by(
+    text: &mut String,
+    name: Option<&'static str>,
+    own: Option<&[u8]>,
+    slots: &[u8],
+) -> Result<(), AllocError>
+    ensures { OnOk result (string_bytes text.new
+        ≡ string_bytes text.old ++ listed_words (option_map (λ name. name.now) name.entry) (option_map (λ name. name.now) own.entry) (digits slots.now)) }
+{
+    match (name, own) {
+        (None, Some(own)) => {
+            put_quoted(text, own)?;
+            put_behind(text, slots)
+        }
         (name, _) => put_named(text, name, slots),
     }
+}
+
+/// Two slots that are the root, a sub-device, or all of them.
+#[tactic(auto, using(crate::proofs::Reports::other_place, crate::proofs::Reports::place_put))]
+pub(crate) fn put_place_in(text: &mut String, slots: &[u8]) -> Result<(), AllocError>
+    ensures { OnOk result (PutsFacts (as_place slots.now) (string_bytes text.old) (string_bytes text.new)) }
+{
+    if slots.len() != 2 {
+        return put_data(text, slots);
+    }
+    put_place(text, word_in(slots))
 }
 
 /// The same for fields that one parameter has.
 fn put_rare(text: &mut String, meaning: Meaning, slots: &[u8]) -> Result<(), AllocError> {
     match (meaning, slots) {
-        (Meaning::Uid, [_, _, _, _, _, _]) => {
-            let uid = uid_at(slots, 0);
-            write!(text, "{uid}")
-        }
-        (Meaning::SlotUse, [kind, a, b]) => put_slot_use(text, *kind, &[*a, *b]),
         (Meaning::Support, [support]) => match SUPPORT.name(u32::from(*support)) {
             Some(words) => text.push_str(words),
             None => write!(text, "support {support:02X}"),
@@ -133,15 +148,36 @@ fn put_scene(text: &mut String, scene: u16) -> Result<(), AllocError> {
     }
 }
 
+/// Three slots that say what a slot is for: its type and its label ID.
+#[tactic(auto, using(crate::proofs::Reports::other_use, crate::proofs::Reports::use_in_put))]
+pub(crate) fn put_slot_use(text: &mut String, slots: &[u8]) -> Result<(), AllocError>
+    ensures { OnOk result (PutsFacts (as_slot_use slots.now) (string_bytes text.old) (string_bytes text.new)) }
+{
+    if slots.len() != 3 {
+        return put_data(text, slots);
+    }
+    put_use(text, slots[0], &[slots[1], slots[2]])
+}
+
 /// What a slot is for: its label if it is a primary one, else the primary slot that it belongs to.
-fn put_slot_use(text: &mut String, kind: u8, label: &[u8]) -> Result<(), AllocError> {
-    put_coded(text, SLOT_TYPES, &[kind])?;
+fn put_use(text: &mut String, kind: u8, label: &[u8]) -> Result<(), AllocError>
+    ensures { OnOk result (PutsFacts (slot_use kind label.now) (string_bytes text.old) (string_bytes text.new)) }
+{
+    put_row(text, SLOT_TYPES, &[kind])?;
     if kind == PRIMARY {
         text.push_str(", ")?;
-        return put_coded(text, SLOT_LABELS, label);
+        return put_row(text, SLOT_LABELS, label);
     }
     let primary = number_of(label);
     write!(text, " of slot {primary}")
+}
+
+/// A number of a table, by its name and in hexadecimal digits.
+#[tactic(auto, using(crate::proofs::LaidOut::coded_put))]
+fn put_row(text: &mut String, table: Table, slots: &[u8]) -> Result<(), AllocError>
+    ensures { OnOk result (PutsFacts (digits slots.now ∷ []) (string_bytes text.old) (string_bytes text.new)) }
+{
+    put_coded(text, table, slots)
 }
 
 /// The flags of a control field.

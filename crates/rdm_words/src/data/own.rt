@@ -1,17 +1,20 @@
 //! The words of parameters that a fixture adds (E1.20 section 10.4.2, E1.37-1).
 
+ghost use Rattle.std.specs.Prelude.{◌≡◌, ◌++◌, OnOk, option_map, string_bytes};
+ghost use Rattle.rdm_words.specs.HeaderWords.{parameter_words};
+
 use crate::data::added::fields_of;
 use crate::data::described::{Added, common_shape};
 use crate::data::form::Record;
 use crate::data::known::Facts;
 use crate::data::lengths::put_other_length;
 use crate::data::sensors::put_unit;
-use crate::data::values::{number_of as number_in_slots, put_coded, put_record};
+use crate::data::values::{number_of as number_in_slots, put_behind, put_coded, put_record};
 use crate::frame::class::Class;
 use crate::tables::Table;
 use crate::tables::parameters::parameter;
 use crate::tables::products::PRODUCT_DETAILS;
-use crate::text::put_quoted;
+use crate::text::{put_hex, put_quoted};
 use rdm_device::columns::added::{number_in, read_shape};
 use rdm_device::{Field, Shape};
 use rdm_frame::standard::{PARAMETER_DESCRIPTION, PRODUCT_DETAIL_ID_LIST, PROXIED_DEVICES};
@@ -42,22 +45,46 @@ pub(crate) fn put_parameter(
     pid: u16,
     known: &Facts<'_>,
 ) -> Result<(), AllocError> {
-    if let Some(name) = parameter(pid) {
-        return write!(text, "{name} ({pid:04X})");
-    }
+    put_parameter_by(text, pid, own_name(pid, known))
+}
+
+/// The name that the fixture is known to give a parameter.
+pub(crate) fn own_name<'a>(pid: u16, known: &Facts<'a>) -> Option<&'a [u8]> {
     match known.parameter(pid) {
-        Some(def) => {
-            put_quoted(text, def.name)?;
-            write!(text, " ({pid:04X})")
-        }
-        None => write!(text, "parameter {pid:04X}"),
+        Some(def) => Some(def.name),
+        None => None,
     }
 }
 
-/// What data say of a parameter that isn't in the table, on a line of its own before the data themselves: the fields of one of the
-/// standards, the value of one that the fixture is known to add, or the description of one. There is no line if that isn't known; and one
-/// that they haven't the length of the parameter, if that is so.
-pub(crate) fn put_own_line(
+/// A parameter that the fixture gives this name, if it gives one.
+#[tactic(auto, unfolding(crate::specs::HeaderWords::parameter_words))]
+pub(crate) fn put_parameter_by(
+    text: &mut String,
+    pid: u16,
+    own: Option<&[u8]>,
+) -> Result<(), AllocError>
+    ensures { OnOk result (string_bytes text.new ≡ string_bytes text.old ++ parameter_words pid (option_map (λ name. name.now) own.entry)) }
+{
+    if let Some(name) = parameter(pid) {
+        text.push_str(name)?;
+        return put_behind(text, &pid.to_be_bytes());
+    }
+    match own {
+        Some(name) => {
+            put_quoted(text, name)?;
+            put_behind(text, &pid.to_be_bytes())
+        }
+        None => {
+            text.push_str("parameter ")?;
+            put_hex(text, &pid.to_be_bytes())
+        }
+    }
+}
+
+/// What data say of a parameter that isn't in the table, for a line of its own before the data themselves: the fields of one of the
+/// standards, the value of one that the fixture is known to add, or the description of one. There is nothing if that isn't known; and that
+/// they haven't the length of the parameter, if that is so.
+pub(crate) fn put_own_words(
     text: &mut String,
     code: u8,
     pid: u16,
@@ -66,14 +93,13 @@ pub(crate) fn put_own_line(
 ) -> Result<(), AllocError> {
     let mut words = String::new(*text.allocator());
     put_own(&mut words, "value ", code, pid, data, known)?;
-    if words.is_empty() {
-        return match unfit(code, pid, data) {
-            Some(record) => put_other_length(text, pid, record, data),
-            None => Ok(()),
-        };
+    if !words.is_empty() {
+        return text.push_str(words.as_str());
     }
-    text.push_str("\n  ")?;
-    text.push_str(words.as_str())
+    match unfit(code, pid, data) {
+        Some(record) => put_other_length(text, pid, record, data),
+        None => Ok(()),
+    }
 }
 
 /// The fields of a parameter of the standards, if the data have another length.
@@ -302,6 +328,9 @@ fn put_description(text: &mut String, data: &[u8]) -> Result<(), AllocError> {
     if numbers.len() < 12 {
         return Ok(());
     }
+    let low = number_of(*kind, &numbers[..4]);
+    let high = number_of(*kind, &numbers[4..8]);
+    let default = number_of(*kind, &numbers[8..12]);
     let pid = u16::from_be_bytes([*a, *b]);
     write!(text, "parameter {pid:04X}: ")?;
     put_quoted(text, &numbers[12..])?;
@@ -312,13 +341,11 @@ fn put_description(text: &mut String, data: &[u8]) -> Result<(), AllocError> {
         _ => write!(text, " of {slots} slots, ")?,
     }
     put_coded(text, COMMAND_CLASSES, &[*class])?;
-    let low = number_of(*kind, &numbers[..4]);
-    let high = number_of(*kind, &numbers[4..8]);
     if let (Some(low), Some(high)) = (low, high) {
         write!(text, ", {low} to {high}")?;
         put_unit(text, "", *prefix, *unit)?;
     }
-    match number_of(*kind, &numbers[8..12]) {
+    match default {
         Some(number) => write!(text, ", default {number}"),
         None => Ok(()),
     }

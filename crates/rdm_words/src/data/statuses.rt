@@ -1,10 +1,16 @@
 //! The words of status messages (E1.20 section 10.3 and table B-2).
 
+ghost use Rattle.std.specs.Prelude.{[], ◌∷◌, OnOk, string_bytes};
+ghost use Rattle.std.specs.Int.{w16, to_be_bytes};
+ghost use Rattle.rdm_frame.specs.Digits.{digits};
+ghost use Rattle.rdm_words.specs.FieldFacts.{as_failure, failure_facts};
+ghost use Rattle.rdm_words.specs.Naming.{AddsNames, PutsFacts};
+
 use crate::data::known::Facts;
-use crate::data::values::{put_coded, put_named};
+use crate::data::values::{put_behind, put_coded, put_data, put_named};
 use crate::tables::slots::SLOT_LABELS;
 use crate::tables::statuses::{STATUS_IDS, status_type};
-use crate::text::put_foreign;
+use crate::text::{put_foreign, put_word};
 use std::alloc::AllocError;
 use std::fmt::Write;
 
@@ -35,10 +41,40 @@ pub(crate) fn put_failure(
     text: &mut String,
     status: &Status,
     known: &Facts<'_>,
-) -> Result<(), AllocError> {
+) -> Result<(), AllocError>
+    ensures { OnOk result (PutsFacts (failure_facts status.now.severity status.now.id) (string_bytes text.old) (string_bytes text.new)) }
+{
     put_named(text, status_type(status.severity), &[status.severity])?;
     text.push_str(", ")?;
     put_meaning(text, status, known)?;
+    put_values(text, status, known)
+}
+
+/// The same of seven slots: the status type, the status ID, and two values.
+#[tactic(auto, using(crate::proofs::Reports::other_failure, crate::proofs::Reports::failure_in_put))]
+pub(crate) fn put_failure_in(
+    text: &mut String,
+    slots: &[u8],
+    known: &Facts<'_>,
+) -> Result<(), AllocError>
+    ensures { OnOk result (PutsFacts (as_failure slots.now) (string_bytes text.old) (string_bytes text.new)) }
+{
+    if slots.len() != 7 {
+        return put_data(text, slots);
+    }
+    let status = Status {
+        severity: slots[0],
+        id: u16::from_be_bytes([slots[1], slots[2]]),
+        first: u16::from_be_bytes([slots[3], slots[4]]),
+        second: u16::from_be_bytes([slots[5], slots[6]]),
+    };
+    put_failure(text, &status, known)
+}
+
+/// The two values of a status message, if its text doesn't name them.
+fn put_values(text: &mut String, status: &Status, known: &Facts<'_>) -> Result<(), AllocError>
+    ensures { OnOk result (AddsNames [] (string_bytes text.old) (string_bytes text.new)) }
+{
     if has_values(status.id, known) {
         return Ok(());
     }
@@ -51,15 +87,26 @@ pub(crate) fn put_meaning(
     text: &mut String,
     status: &Status,
     known: &Facts<'_>,
-) -> Result<(), AllocError> {
-    let id = status.id;
-    match template(id, known) {
-        Some(words) => {
-            put_filled(text, words, status)?;
-            write!(text, " ({id:04X})")
+) -> Result<(), AllocError>
+    ensures { OnOk result (PutsFacts (digits (to_be_bytes w16 status.now.id) ∷ []) (string_bytes text.old) (string_bytes text.new)) }
+{
+    match template(status.id, known) {
+        Some(words) => put_described(text, words, status),
+        None => {
+            text.push_str("status ID ")?;
+            put_word(text, status.id)
         }
-        None => write!(text, "status ID {id:04X}"),
     }
+}
+
+/// The text with the values in it, and the status ID.
+fn put_described(text: &mut String, words: &[u8], status: &Status) -> Result<(), AllocError>
+    ensures { OnOk result (PutsFacts (digits (to_be_bytes w16 status.now.id) ∷ []) (string_bytes text.old) (string_bytes text.new)) }
+{
+    let mut filled = String::new(*text.allocator());
+    put_filled(&mut filled, words, status)?;
+    text.push_str(filled.as_str())?;
+    put_behind(text, &status.id.to_be_bytes())
 }
 
 /// Whether the text of a status ID names the two values.

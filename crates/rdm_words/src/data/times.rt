@@ -1,5 +1,8 @@
 //! The words of times, dates and PINs.
 
+ghost use Rattle.std.specs.Prelude.{◌≡◌, ◌++◌, OnOk, string_bytes};
+ghost use Rattle.rdm_words.specs.HeaderFacts.{tenths_text};
+
 use crate::data::form::Meaning;
 use crate::data::values::put_data;
 use std::alloc::AllocError;
@@ -46,7 +49,9 @@ pub(crate) fn put_time_or_pin(
 }
 
 /// So many tenths of a second.
-pub(crate) fn put_tenths(text: &mut String, tenths: u16) -> Result<(), AllocError> {
+pub(crate) fn put_tenths(text: &mut String, tenths: u16) -> Result<(), AllocError>
+    ensures { OnOk result (string_bytes text.new ≡ string_bytes text.old ++ tenths_text tenths) }
+{
     let (seconds, rest) = (tenths / 10, tenths % 10);
     write!(text, "{seconds}.{rest} s")
 }

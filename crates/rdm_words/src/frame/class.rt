@@ -1,14 +1,16 @@
 //! What a frame does (E1.20 table A-1).
 
-ghost use Rattle.std.specs.Prelude.{◌≡◌};
+ghost use Rattle.std.specs.Prelude.{◌≡◌, ◌++◌, OnOk, option_map, string_bytes};
+ghost use Rattle.rdm_words.specs.HeaderFacts.{class_name};
+ghost use Rattle.rdm_words.specs.HeaderWords.{class_words};
 ghost use Rattle.rdm_words.specs.Unread.{is_response};
 
+use crate::data::values::put_or;
 use rdm_frame::standard::{
     DISCOVERY_COMMAND, DISCOVERY_COMMAND_RESPONSE, GET_COMMAND, GET_COMMAND_RESPONSE, SET_COMMAND,
     SET_COMMAND_RESPONSE,
 };
 use std::alloc::AllocError;
-use std::fmt::Write;
 
 /// A command class.
 #[derive(Clone, Copy)]
@@ -34,17 +36,20 @@ impl Class {
             _ => return None,
         })
     }
+}
 
-    /// Its name.
-    fn name(self) -> &'static str {
-        match self {
-            Class::Discovery => "DISCOVERY",
-            Class::DiscoveryResponse => "DISCOVERY response",
-            Class::Get => "GET",
-            Class::GetResponse => "GET response",
-            Class::Set => "SET",
-            Class::SetResponse => "SET response",
-        }
+/// The name of the command class with this code.
+fn class_name(code: u8) -> Option<&'static str>
+    ensures { option_map (λ text. text.now) result ≡ class_name code }
+{
+    match code {
+        DISCOVERY_COMMAND => Some("DISCOVERY"),
+        DISCOVERY_COMMAND_RESPONSE => Some("DISCOVERY response"),
+        GET_COMMAND => Some("GET"),
+        GET_COMMAND_RESPONSE => Some("GET response"),
+        SET_COMMAND => Some("SET"),
+        SET_COMMAND_RESPONSE => Some("SET response"),
+        _ => None,
     }
 }
 
@@ -58,9 +63,14 @@ pub(crate) fn is_response(code: u8) -> bool
 }
 
 /// The name of a command class, or its code if the standard doesn't have it.
-pub(crate) fn put_class(text: &mut String, code: u8) -> Result<(), AllocError> {
-    match Class::of(code) {
-        Some(class) => text.push_str(class.name()),
-        None => write!(text, "command class {code:02X}"),
-    }
+#[tactic(auto, unfolding(crate::specs::HeaderWords::class_words))]
+pub(crate) fn put_class(text: &mut String, code: u8) -> Result<(), AllocError>
+    ensures { OnOk result (string_bytes text.new ≡ string_bytes text.old ++ class_words code) }
+{
+    put_or(
+        text,
+        "command class ",
+        class_name(code),
+        &code.to_be_bytes(),
+    )
 }

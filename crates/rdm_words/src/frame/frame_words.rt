@@ -1,23 +1,26 @@
 //! The words of a frame: a line of its header, and lines of its data below.
 
-ghost use Rattle.std.specs.Prelude.{◌≡◌, ◌≢◌, ◌<◌, ℕ, List, [], ◌++◌, true, None, IsTrue, OnOk, length, string_bytes};
+ghost use Rattle.std.specs.Prelude.{◌≡◌, ◌≢◌, ◌<◌, ℕ, List, [], ◌++◌, true, Some, None, IsTrue, OnOk, length, string_bytes};
 ghost use Rattle.rdm_words.specs.Fixed.{AreWordsOfBytes, AreWordsOfWhole, answer_words, cause_words, has_no_start, is_readable, stray_words, with_start};
 ghost use Rattle.rdm_words.specs.Before.{IsAnswerOf};
 ghost use Rattle.rdm_words.specs.Plain.{IsFixed, IsPlain};
-ghost use Rattle.rdm_words.specs.Unread.{HasUnread, AreLastOfBytes, AreLastOfWhole, data_line, is_put_off, stray_line};
+ghost use Rattle.rdm_words.specs.FrameFacts.{AreFactsOfBytes, AreFactsOfWhole, frame_facts};
+ghost use Rattle.rdm_words.specs.DataFacts.{body_facts};
+ghost use Rattle.rdm_words.specs.LaidOut.{layout_facts};
+ghost use Rattle.rdm_words.specs.Naming.{AddsNames, SaysFacts};
+ghost use Rattle.rdm_words.specs.Unread.{HasUnread, AreLastOfBytes, AreLastOfWhole, data_line, is_put_off, plain_line, put_off_line, stray_line};
 
 use crate::Known;
 use crate::data::form::{Form, Layout};
 use crate::data::known::Facts;
 use crate::data::layout::layout_of;
 use crate::data::lengths::put_wrong_length;
-use crate::data::lists::put_entries;
-use crate::data::own::put_own_line;
+use crate::data::own::{own_name, put_own_words};
 use crate::data::values::{put_data, put_value};
-use crate::frame::class::{Class, is_response};
-use crate::frame::header::{put_request, put_response};
+use crate::frame::class::is_response;
+use crate::frame::header::put_header;
 use crate::frame::invalid::{header_of, is_readable, put_wrongs};
-use crate::text::put_hex;
+use crate::text::{put_below, put_hex};
 use rdm_frame::standard::{ACK, ACK_TIMER, MOST_SLOTS, NACK_REASON, START_CODE, SUB_START_CODE};
 use rdm_frame::{FrameError, FrameView, Uid, Wire, branch_uid, decode_view};
 use std::alloc::AllocError;
@@ -36,6 +39,7 @@ pub(crate) fn put_bytes_words(
         ((words : List ℕ) → AreWordsOfBytes bytes.now words → IsFixed words × (string_bytes text.new ≡ string_bytes text.old ++ words)) }
     ensures last { OnOk result ((words : List ℕ) → AreLastOfBytes bytes.now words
         → IsFixed words × (front : List ℕ) × (string_bytes text.new ≡ string_bytes text.old ++ (front ++ words))) }
+    ensures named { OnOk result ((facts : List (List ℕ)) → AreFactsOfBytes bytes.now facts → SaysFacts facts (string_bytes text.old) (string_bytes text.new)) }
 {
     put_whole_words(text, with_start(bytes).as_slice(), known)
 }
@@ -67,6 +71,7 @@ fn put_whole_words(text: &mut String, bytes: &[u8], known: &Known<'_>) -> Result
         ((words : List ℕ) → AreWordsOfWhole bytes.now words → IsFixed words × (string_bytes text.new ≡ string_bytes text.old ++ words)) }
     ensures last { OnOk result ((words : List ℕ) → AreLastOfWhole bytes.now words
         → IsFixed words × (front : List ℕ) × (string_bytes text.new ≡ string_bytes text.old ++ (front ++ words))) }
+    ensures named { OnOk result ((facts : List (List ℕ)) → AreFactsOfWhole bytes.now facts → SaysFacts facts (string_bytes text.old) (string_bytes text.new)) }
 {
     match decode_view(bytes) {
         Ok(frame) => put_frame(text, &frame, known),
@@ -147,65 +152,63 @@ pub(crate) fn cause_of(error: FrameError) -> &'static str
     }
 }
 
+/// A frame: the line of its header, and those of its data below.
 fn put_frame(text: &mut String, frame: &FrameView<'_>, known: &Known<'_>) -> Result<(), AllocError>
     ensures last { HasUnread frame.now → OnOk result
         ((front : List ℕ) × (string_bytes text.new ≡ string_bytes text.old ++ (front ++ data_line frame.now.body))) }
+    ensures named { OnOk result (SaysFacts (frame_facts frame.now) (string_bytes text.old) (string_bytes text.new)) }
 {
+    let facts = known.at(owner_of(frame));
     let mut head = String::new(*text.allocator());
-    put_head(&mut head, frame, known)?;
-    put_own_words(&mut head, frame, known)?;
+    put_header(&mut head, frame, own_name(frame.pid, &facts))?;
+    let mut own = String::new(*text.allocator());
+    put_own(&mut own, frame, &facts)?;
     text.push_str(head.as_str())?;
-    put_body(text, frame, known)
+    put_below(text, own.as_str())?;
+    put_body(text, frame, &facts)
 }
 
-/// The line of the header.
-fn put_head(text: &mut String, frame: &FrameView<'_>, known: &Known<'_>) -> Result<(), AllocError> {
+/// Whose parameter a frame tells of: that of the device which responds, or is asked.
+fn owner_of(frame: &FrameView<'_>) -> Uid {
     if is_response(frame.class) {
-        return put_response(text, frame, &known.at(frame.src));
-    }
-    let known = known.at(frame.dst);
-    match Class::of(frame.class) {
-        Some(_) => put_request(text, "asks", frame, &known),
-        None => put_request(text, "to", frame, &known),
+        frame.src
+    } else {
+        frame.dst
     }
 }
 
-/// A line of what the data of a parameter say that no table of the standard has, if that is known of the fixture.
-fn put_own_words(
-    text: &mut String,
-    frame: &FrameView<'_>,
-    known: &Known<'_>,
-) -> Result<(), AllocError> {
-    let (class, pid, body) = (frame.class, frame.pid, frame.body);
-    if !is_response(class) {
-        return put_own_line(text, class, pid, body, &known.at(frame.dst));
+/// What the data of a parameter say that no table of the standard has, if that is known of the fixture.
+fn put_own(text: &mut String, frame: &FrameView<'_>, known: &Facts<'_>) -> Result<(), AllocError> {
+    if is_response(frame.class) && frame.port != ACK {
+        return Ok(());
     }
-    match frame.port {
-        ACK => put_own_line(text, class, pid, body, &known.at(frame.src)),
-        _ => Ok(()),
-    }
+    put_own_words(text, frame.class, frame.pid, frame.body, known)
 }
 
 /// The lines of the data, but for those of an ACK_TIMER or a NACK, which stand in the header.
-fn put_body(text: &mut String, frame: &FrameView<'_>, known: &Known<'_>) -> Result<(), AllocError>
+fn put_body(text: &mut String, frame: &FrameView<'_>, known: &Facts<'_>) -> Result<(), AllocError>
     ensures last { HasUnread frame.now → OnOk result (string_bytes text.new ≡ string_bytes text.old ++ data_line frame.now.body) }
+    ensures named { OnOk result (AddsNames (body_facts frame.now) (string_bytes text.old) (string_bytes text.new)) }
 {
-    let layout = layout_of(frame.class, frame.pid);
-    if !is_response(frame.class) {
-        let subject = Subject::whole(frame.pid);
-        return put_data_lines(text, subject, layout, frame.body, &known.at(frame.dst));
-    }
-    if is_put_off(frame.port) {
-        return match frame.body {
-            [_, _] => Ok(()),
-            slots => put_plain_line(text, slots),
-        };
+    if is_response(frame.class) && is_put_off(frame.port) {
+        return put_put_off(text, frame.body);
     }
     let subject = Subject {
         pid: frame.pid,
-        is_whole: frame.port == ACK,
+        is_whole: !is_response(frame.class) || frame.port == ACK,
     };
-    put_data_lines(text, subject, layout, frame.body, &known.at(frame.src))
+    let layout = layout_of(frame.class, frame.pid);
+    put_data_lines(text, subject, layout, frame.body, known)
+}
+
+/// The data of an ACK_TIMER or a NACK, if they aren't the two slots that stand in the header.
+fn put_put_off(text: &mut String, slots: &[u8]) -> Result<(), AllocError>
+    ensures { OnOk result (string_bytes text.new ≡ string_bytes text.old ++ put_off_line slots.now) }
+{
+    if slots.len() == 2 {
+        return Ok(());
+    }
+    put_plain_line(text, slots)
 }
 
 /// Of what data are.
@@ -244,6 +247,7 @@ pub(crate) fn put_data_lines(
 ) -> Result<(), AllocError>
     ensures last { layout ≡ None → slots.now ≢ [] → OnOk result (string_bytes text.new ≡ string_bytes text.old ++ data_line slots.now) }
     ensures plain { IsPlain (data_line slots.now) }
+    ensures named { OnOk result (AddsNames (layout_facts layout slots.now) (string_bytes text.old) (string_bytes text.new)) }
 {
     match layout {
         Some(layout) => put_laid_out(text, subject, layout, slots, known),
@@ -258,24 +262,50 @@ fn put_laid_out(
     layout: Layout,
     data: &[u8],
     known: &Facts<'_>,
-) -> Result<(), AllocError> {
-    let Layout(_, form) = layout;
+) -> Result<(), AllocError>
+    ensures { OnOk result (AddsNames (layout_facts (Some layout) data.now) (string_bytes text.old) (string_bytes text.new)) }
+{
+    let mut wrong = String::new(*text.allocator());
     if subject.is_whole {
-        put_wrong_length(text, subject.pid, form, data)?;
+        put_wrong_length(&mut wrong, subject.pid, layout.1, data)?;
     }
-    match form {
+    put_below(text, wrong.as_str())?;
+    put_laid_out_lines(text, layout, data, known)
+}
+
+/// The same without what is wrong with their length.
+#[tactic(auto, using(crate::proofs::Naming::adds_plain))]
+fn put_laid_out_lines(
+    text: &mut String,
+    layout: Layout,
+    data: &[u8],
+    known: &Facts<'_>,
+) -> Result<(), AllocError>
+    ensures { OnOk result (AddsNames (layout_facts (Some layout) data.now) (string_bytes text.old) (string_bytes text.new)) }
+{
+    match layout.1 {
         Form::Nothing | Form::Shown => put_plain_line(text, data),
-        Form::List(list) => put_entries(text, list, data, known),
-        _ => {
-            text.push_str(DATA_LINE)?;
-            put_value(text, layout, data, known)
-        }
+        _ => put_own_line(text, layout, data, known),
     }
+}
+
+/// The same on lines of their own.
+fn put_own_line(
+    text: &mut String,
+    layout: Layout,
+    data: &[u8],
+    known: &Facts<'_>,
+) -> Result<(), AllocError>
+    ensures { OnOk result (AddsNames (layout_facts (Some layout) data.now) (string_bytes text.old) (string_bytes text.new)) }
+{
+    text.push_str(DATA_LINE)?;
+    put_value(text, layout, data, known)
 }
 
 /// A line of data that have no words, if there are any.
 fn put_plain_line(text: &mut String, slots: &[u8]) -> Result<(), AllocError>
-    ensures { slots.now ≢ [] → OnOk result (string_bytes text.new ≡ string_bytes text.old ++ data_line slots.now) }
+    ensures some { slots.now ≢ [] → OnOk result (string_bytes text.new ≡ string_bytes text.old ++ data_line slots.now) }
+    ensures all { OnOk result (string_bytes text.new ≡ string_bytes text.old ++ plain_line slots.now) }
 {
     if slots.is_empty() {
         return Ok(());

@@ -7,6 +7,7 @@ use crate::Known;
 use crate::data::form::{Form, Layout};
 use crate::data::known::Facts;
 use crate::data::layout::layout_of;
+use crate::data::lists::put_count_of;
 use crate::data::own::put_own;
 use crate::data::values::put_value;
 use crate::frame::class::{Class, put_class};
@@ -145,11 +146,24 @@ fn put_short_value(
     let mut value = String::new(*text.allocator());
     put_own(&mut value, "", frame.class, frame.pid, data, known)?;
     if value.is_empty() {
-        put_value(&mut value, Layout("", form), data, known)?;
+        put_in_short(&mut value, form, data, known)?;
     }
     if value.len() > LONGEST_VALUE {
         let slots = data.len();
         return write!(text, ": {slots} slots of data");
     }
     write!(text, ": {value}")
+}
+
+/// The data in a few words: of a list how many entries there are.
+fn put_in_short(
+    text: &mut String,
+    form: Form,
+    data: &[u8],
+    known: &Facts<'_>,
+) -> Result<(), AllocError> {
+    match form {
+        Form::List(list) => put_count_of(text, list, data),
+        form => put_value(text, Layout("", form), data, known),
+    }
 }

@@ -1,4 +1,4 @@
-use Rattle.std.proofs.Common.{ℕ, List, drop, get_or, subst, sym, arith, ◌≡◌, ◌+◌, ◌++◌, ap, ◌∙◌}
+use Rattle.std.proofs.Common.{drop, get_or, subst, sym, arith, ◌≡◌, ◌+◌, ◌++◌, ap, ◌∙◌}
 use Rattle.std.proofs.lemmas.List.{length-drop}
 use Rattle.rdm_trace.specs.declared.line.Line.{Line}
 use Rattle.rdm_words.specs.declared.before.Before.{Before}

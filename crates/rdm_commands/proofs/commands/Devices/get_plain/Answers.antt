@@ -10,6 +10,6 @@ use Rattle.rdm_commands.proofs.commands.Devices.get_plain.Goals as goal
 
 pub returns-clause-ok : goal.returns-clause-ok
 returns-clause-ok c =
-    let first : slice_get (addressed c.args.self.now c.args.sub Get) 0 ≡ Some c.in-Some.place = search rules in
+    let first : slice_get (addressed c.args.self.now c.args.sub Get) 0 ≡ Some c.place_of.result = search rules in
     let empty : c.args.data.now ≡ [] = search (rules, nil_from_length) in
-    plain_reply c.args.self.now c.args.sub (pid_of c.args.kind) c.in-Some.place c.args.data.now c.state_into.new.body first c.requires.bare c.requires.way empty (c.state_into.ensures Nothing)
+    plain_reply c.args.self.now c.args.sub (pid_of c.args.kind) c.place_of.result c.args.data.now c.state_into.new.body first c.requires.bare c.requires.way empty (c.state_into.ensures Nothing)

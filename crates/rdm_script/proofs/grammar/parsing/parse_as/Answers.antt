@@ -1,22 +1,24 @@
-use Rattle.std.proofs.lemmas.Result.{IfOk-weaker}
-use Rattle.rdm_crew.specs.RunTrace.{HaveFaults}
-use Rattle.rdm_script.specs.declared.script.Script.{Script}
-use Rattle.rdm_script.specs.Grammar.{IsRead}
-use Rattle.rdm_script.specs.Spelling.{IsScript}
-use Rattle.rdm_script.proofs.ScriptSpellings.{script_spelled, script_read, script_alters}
+use Rattle.std.proofs.Common.{◌∙◌, arith, sym}
+use Rattle.rdm_script.proofs.ScriptSpellings.{never_faulty, script_spelled, script_read, script_alters}
 use Rattle.rdm_script.proofs.grammar.parsing.parse_as.Goals as goal
+
+pub returns-in_err-read_lines-clause-only : goal.returns-in_err-read_lines-clause-only
+returns-in_err-read_lines-clause-only c = λ setup steps spelled.
+    let d = c.args.dialect.now in
+    let text = c.args.text.now in
+    absurd (never_faulty d text setup steps _ (script_read d text setup steps spelled) c.in_err-read_lines.ensures.err)
 
 pub returns-clause-ok : goal.returns-clause-ok
 returns-clause-ok c =
-    let d = c.args.dialect.now in
-    let text = c.args.text.now in
-    IfOk-weaker c.read_script.result (λ (s : Script). IsRead d text s.setup s.steps.items) (λ (s : Script). IsScript d text s.setup s.steps.items) (λ s read. script_spelled d text s.setup s.steps.items read) c.read_script.ensures.ok
+    script_spelled c.args.dialect.now c.args.text.now c.read_lines.new.script.setup c.read_lines.new.script.steps.items (record {
+      within = omega (arith, c.if-text-gt-MOST_BYTES.false);
+      says = c.in_ok-read_lines.ensures.ok;
+    })
 
 pub returns-clause-only : goal.returns-clause-only
-returns-clause-only c = λ setup steps spelled. c.read_script.ensures.only setup steps (script_read c.args.dialect.now c.args.text.now setup steps spelled)
+returns-clause-only c = λ setup steps spelled.
+    let read = script_read c.args.dialect.now c.args.text.now setup steps spelled in
+    (c.in_ok-read_lines.ensures.ok.setup_is ∙ sym read.says.setup_is, c.in_ok-read_lines.ensures.ok.in_order ∙ sym read.says.in_order)
 
 pub returns-clause-faults : goal.returns-clause-faults
-returns-clause-faults c =
-    let d = c.args.dialect.now in
-    let text = c.args.text.now in
-    IfOk-weaker c.read_script.result (λ (s : Script). IsRead d text s.setup s.steps.items) (λ (s : Script). HaveFaults s.steps.items) (λ s read. script_alters d text s.setup s.steps.items (script_spelled d text s.setup s.steps.items read)) c.read_script.ensures.ok
+returns-clause-faults c = script_alters c.args.dialect.now c.args.text.now c.read_lines.new.script.setup c.read_lines.new.script.steps.items (returns-clause-ok c)

@@ -1,0 +1,5 @@
+pub mod Spent
+pub mod Keeping
+pub mod Hearing
+pub mod Packets
+pub mod Standing
