@@ -4,7 +4,7 @@ use Rattle.std.specs.Prelude.{ℕ, ◌==◌, List, [], ◌∷◌, length, Option
 use Rattle.rdm_params.specs.Table.Kinds.{kind_with}
 use Rattle.rdm_table.specs.declared.kind.Kind.{Kind}
 use Rattle.rdm_table.specs.declared.kind.Kind.TheVariants.{StatusMessages, StatusIdDescription, ClearStatusId, SupportedParameters, DeviceInfo, DeviceModelDescription, ManufacturerLabel, DeviceLabel, FactoryDefaults, LanguageCapabilities, Language, SoftwareVersionLabel, BootSoftwareVersionId, BootSoftwareVersionLabel, DmxPersonality, DmxPersonalityDescription, DmxStartAddress, SlotInfo, SlotDescription, DefaultSlotValue, SensorDefinition, SensorValue, RecordSensors, DeviceHours, LampHours, LampStrikes, DevicePowerCycles, DisplayLevel, PerformSelfTest, SelfTestDescription, PresetPlayback}
-use Rattle.rdm_words.specs.FieldFacts.{slots_at, as_number, as_digits, as_number_but, as_text, as_data, as_signed, as_measured, as_uid, as_parameter, as_place, as_failure, as_slot_use, all_of, exactly, at_least, each_entry}
+use Rattle.rdm_words.specs.FieldFacts.{slots_at, as_number, as_digits, as_number_but, as_text, as_data, as_signed, as_measured, as_uid, as_parameter, as_place, as_failure, as_range, as_slot_use, all_of, exactly, at_least, each_entry}
 use Rattle.rdm_words.specs.Unread.{is_put_off, is_response}
 use Rattle.rdm_frame.specs.declared.frame.Frame.{Frame}
 
@@ -57,9 +57,12 @@ slot_text d = at_least 2 d (as_number (slots_at 0 2 d) ∷ as_text (slots_at 2 2
 abbrev pub sensor : List ℕ → List (List ℕ)
 sensor d = exactly 1 d (as_number_but (0xFF ∷ []) (slots_at 0 1 d) ∷ [])
 
--- SENSOR_DEFINITION. Section 10.7.1: the sensor, its text and its type. Its unit, its ranges and what it keeps aren't here.
+-- SENSOR_DEFINITION. Section 10.7.1: the sensor, its text, its type, its range, its normal range, its unit with the prefix, and what it keeps.
 abbrev pub sensor_definition : List ℕ → List (List ℕ)
-sensor_definition d = at_least 13 d (as_number (slots_at 0 1 d) ∷ as_text (slots_at 13 255 d) ∷ as_digits (slots_at 1 1 d) ∷ [])
+sensor_definition d =
+    at_least 13 d (
+    as_number (slots_at 0 1 d) ∷ as_text (slots_at 13 255 d) ∷ as_digits (slots_at 1 1 d) ∷ as_range (slots_at 4 4 d) ∷ as_range (slots_at 8 4 d) ∷
+    as_digits (slots_at 2 2 d) ∷ as_digits (slots_at 12 1 d) ∷ [])
 
 -- SENSOR_VALUE. Section 10.7.2: the sensor, what it measures, the lowest and the highest value, and the recorded one. A sensor may leave out
 -- the recorded one, or the lowest and the highest.
@@ -83,9 +86,19 @@ self_test d = exactly 1 d (as_number_but (0x00 ∷ 0xFF ∷ []) (slots_at 0 1 d)
 abbrev pub self_test_text : List ℕ → List (List ℕ)
 self_test_text d = at_least 1 d (as_number (slots_at 0 1 d) ∷ as_text (slots_at 1 255 d) ∷ [])
 
--- PRESET_PLAYBACK. Section 10.11: the level. The scene isn't here.
+-- PRESET_PLAYBACK. Section 10.11: the scene, of which 0x0000 is none and 0xFFFF all (table A-7), and the level.
 abbrev pub preset : List ℕ → List (List ℕ)
-preset d = exactly 3 d (as_number (slots_at 2 1 d) ∷ [])
+preset d = exactly 3 d (as_number_but (0x0000 ∷ 0xFFFF ∷ []) (slots_at 0 2 d) ∷ as_number (slots_at 2 1 d) ∷ [])
+
+-- A status ID. Section 10.3.3.
+abbrev pub status_id : List ℕ → List (List ℕ)
+status_id d = exactly 2 d (as_digits (slots_at 0 2 d) ∷ [])
+
+-- DISC_MUTE and DISC_UN_MUTE in a response. Section 7.6: the control field, and the binding UID of a device that has several ports.
+abbrev pub muted : List ℕ → List (List ℕ)
+muted d =
+    if length d == 8 then all_of (as_digits (slots_at 0 2 d) ∷ as_uid (slots_at 2 6 d) ∷ []) else
+    exactly 2 d (as_digits (slots_at 0 2 d) ∷ [])
 
 -- ---- lists, by their entries
 
@@ -93,7 +106,7 @@ preset d = exactly 3 d (as_number (slots_at 2 1 d) ∷ [])
 abbrev pub supported : List ℕ → List (List ℕ)
 supported d = exactly 2 d (as_parameter (slots_at 0 2 d) ∷ [])
 
--- STATUS_MESSAGES. Section 10.3.2: what failed, and where.
+-- STATUS_MESSAGES. Section 10.3.2: what failed, with two values, and where.
 abbrev pub status_message : List ℕ → List (List ℕ)
 status_message d = exactly 9 d (as_failure (slots_at 2 7 d) ∷ as_place (slots_at 0 2 d) ∷ [])
 
@@ -133,7 +146,7 @@ value_facts kind d = as_data d
 
 -- what a GET asks with
 abbrev pub asked_facts : Kind → List ℕ → List (List ℕ)
-asked_facts StatusIdDescription d = exactly 2 d []
+asked_facts StatusIdDescription d = status_id d
 asked_facts DmxPersonalityDescription d = byte_facts d
 asked_facts SlotDescription d = word_facts d
 asked_facts SensorDefinition d = sensor d
@@ -182,11 +195,11 @@ kind_facts class kind d =
     if class == 0x30 then set_facts kind d else
     if class == 0x31 then done_facts kind d else as_data d
 
--- The parameters of discovery. Section 7. The control field of a device that is muted and what follows it aren't here.
+-- The parameters of discovery. Section 7.
 abbrev pub discovery_facts : ℕ → ℕ → List ℕ → List (List ℕ)
 discovery_facts class pid d =
     if class == 0x10 then (if pid == 0x0001 then branch d else as_data d) else
-    if class == 0x11 then (if pid == 0x0002 then at_least 2 d [] else if pid == 0x0003 then at_least 2 d [] else as_data d) else
+    if class == 0x11 then (if pid == 0x0002 then muted d else if pid == 0x0003 then muted d else as_data d) else
     as_data d
 
 abbrev pub facts_of_kind : ℕ → ℕ → Option Kind → List ℕ → List (List ℕ)

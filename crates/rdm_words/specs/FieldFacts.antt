@@ -1,7 +1,7 @@
 -- How a field of parameter data is named: by the number that counts, by its digits, or by its text.
-use Rattle.std.specs.Prelude.{ℕ, zero, suc, ◌==◌, nat_le, List, [], ◌∷◌, length, take, drop, decimal, slice_index, if◌then◌else◌}
+use Rattle.std.specs.Prelude.{ℕ, zero, suc, ◌==◌, nat_le, Bool, ℤ, pos, negsuc, int_lt, List, [], ◌∷◌, ◌++◌, length, take, drop, decimal, slice_index, if◌then◌else◌}
 use Rattle.std.specs.List.{flat_map, list_any}
-use Rattle.std.specs.Int.{w16, w32, to_be_bytes, from_be_bytes}
+use Rattle.std.specs.Int.{w16, w32, cast_signed, to_be_bytes, from_be_bytes}
 use Rattle.std.specs.Fmt.{signed_decimal}
 use Rattle.rdm_device.specs.Device.Measuring.{signed_in}
 use Rattle.rdm_frame.specs.Digits.{digits}
@@ -66,14 +66,36 @@ as_parameter slots = if length slots == 2 then name_and (standard_name (from_be_
 abbrev pub as_place : List ℕ → List (List ℕ)
 as_place slots = if length slots == 2 then place_fact (from_be_bytes w16 slots) ∷ [] else as_data slots
 
--- A failure: its status type and its status ID. Its two values aren't here, since the text of the ID says where they stand.
-abbrev pub failure_facts : ℕ → ℕ → List (List ℕ)
-failure_facts severity id = digits (severity ∷ []) ∷ digits (to_be_bytes w16 id) ∷ []
+-- A failure: its status type, its status ID, and two values with a sign.
+abbrev pub failure_facts : ℕ → ℕ → ℕ → ℕ → List (List ℕ)
+failure_facts severity id first second =
+    digits (severity ∷ []) ∷ digits (to_be_bytes w16 id) ∷ signed_decimal (cast_signed w16 first) ∷ signed_decimal (cast_signed w16 second) ∷ []
 
--- the same in seven slots: the status type, the status ID and two values
+-- the number of two slots, of which this is the first
+abbrev pub word_at : ℕ → List ℕ → ℕ
+word_at first slots = from_be_bytes w16 (slice_index slots first ∷ slice_index slots (suc first) ∷ [])
+
+-- a failure in seven slots
 abbrev pub as_failure : List ℕ → List (List ℕ)
 as_failure slots =
-    if length slots == 7 then failure_facts (slice_index slots 0) (from_be_bytes w16 (slice_index slots 1 ∷ slice_index slots 2 ∷ [])) else as_data slots
+    if length slots == 7 then failure_facts (slice_index slots 0) (word_at 1 slots) (word_at 3 slots) (word_at 5 slots) else as_data slots
+
+-- Whether a range has a lower end and an upper one: the least and the greatest number stand for none. Section 10.7.1.
+abbrev pub has_lowest : ℤ → Bool
+has_lowest low = int_lt (negsuc 32767) low
+
+abbrev pub has_highest : ℤ → Bool
+has_highest high = int_lt high (pos 32767)
+
+-- a range: the ends that it has
+abbrev pub range_facts : ℤ → ℤ → List (List ℕ)
+range_facts low high =
+    (if has_lowest low then signed_decimal low ∷ [] else []) ++ (if has_highest high then signed_decimal high ∷ [] else [])
+
+-- the same in four slots
+abbrev pub as_range : List ℕ → List (List ℕ)
+as_range slots =
+    if length slots == 4 then range_facts (cast_signed w16 (word_at 0 slots)) (cast_signed w16 (word_at 2 slots)) else as_data slots
 
 -- What a slot is for, by its type: its label if it is a primary one, whose type is 0, or else the number of its primary slot.
 abbrev pub slot_use : ℕ → List ℕ → List (List ℕ)

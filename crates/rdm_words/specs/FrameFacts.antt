@@ -39,7 +39,7 @@ panel_facts change refused = change_fact change ∷ (if refused then codes "refu
 abbrev pub outcome_facts : Outcome → List (List ℕ)
 outcome_facts Done = codes "done" ∷ []
 outcome_facts (Reading value) = signed_decimal value ∷ []
-outcome_facts (Failed severity id v1 v2) = failure_facts (severity_code severity) id
+outcome_facts (Failed severity id v1 v2) = failure_facts (severity_code severity) id v1 v2
 
 -- a report: which job, and how it ended
 abbrev pub report_facts : JobName → Outcome → List (List ℕ)

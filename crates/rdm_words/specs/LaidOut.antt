@@ -16,7 +16,7 @@ use Rattle.rdm_words.specs.declared.data.form.Value.{Value}
 use Rattle.rdm_words.specs.declared.data.form.Value.TheVariants.{Number, Digits, Text, Code as Coded, Counted, Other}
 use Rattle.rdm_words.specs.declared.tables.Table.{Table}
 use Rattle.rdm_words.specs.DataFacts.{languages, supported, status_message, slot_info, slot_default}
-use Rattle.rdm_words.specs.FieldFacts.{slots_at, number_in, as_number, as_digits, as_text, as_data, as_signed, as_measured, as_uid, as_parameter, as_place, as_failure, as_slot_use, each_entry}
+use Rattle.rdm_words.specs.FieldFacts.{slots_at, number_in, as_number, as_digits, as_text, as_data, as_signed, as_measured, as_uid, as_parameter, as_place, as_failure, as_range, as_slot_use, each_entry}
 use Rattle.rdm_words.specs.HeaderWords.{quoted, with_number}
 use Rattle.rdm_words.specs.Naming.{is_apart, NamesInLine}
 
@@ -55,6 +55,10 @@ meaning_facts meaning.Parameter slots = as_parameter slots
 meaning_facts meaning.Place slots = as_place slots
 meaning_facts meaning.Failure slots = as_failure slots
 meaning_facts meaning.SlotUse slots = as_slot_use slots
+meaning_facts meaning.StatusId slots = as_digits slots
+meaning_facts meaning.Range slots = as_range slots
+meaning_facts meaning.Unit slots = as_digits slots
+meaning_facts meaning.Control slots = as_digits slots
 meaning_facts other slots = []
 
 -- slots that are said as such a value

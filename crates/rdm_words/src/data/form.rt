@@ -115,28 +115,22 @@ pub(crate) enum Meaning {
     Parameter,
     /// A sub-device.
     Place,
-    /// A status ID that was said, and here is what it means (section 10.3.3).
-    StatusText,
+    /// A status ID, and what it means (section 10.3.3).
+    StatusId,
     /// What a status message tells, but for its sub-device (section 10.3.2).
     Failure,
     /// What a slot is for: its type and its label ID (section 10.6.4).
     SlotUse,
-    /// Unit, prefix and range of what a sensor measures (section 10.7.1).
-    Measures,
     /// A range of values (section 10.7.1).
     Range,
-    /// Which values a sensor keeps: bit 0 is the recorded one, bit 1 the lowest and the highest (section 10.7.1).
-    Support,
+    /// The unit of what a sensor measures, and its prefix (section 10.7.1).
+    Unit,
     /// The number of a sensor that was said, and what it measures now (section 10.7.2).
     Measured,
-    /// A scene of PRESET_PLAYBACK (section 10.11).
-    Scene,
     /// A scene of DMX_FAIL_MODE or DMX_STARTUP_MODE, of which 0 is no scene, but the level alone (E1.37-1).
     ModeScene,
-    /// The flags of a control field (section 7.6).
-    Flags,
-    /// The binding UID, if there is one (section 7.6).
-    Binding,
+    /// A control field, and its flags (section 7.6).
+    Control,
     /// A time in tenths of a second.
     Tenths,
     /// The same, or without end (E1.37-1).

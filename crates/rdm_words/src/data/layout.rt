@@ -9,8 +9,8 @@ ghost use Rattle.rdm_words.specs.Unread.{is_discovery};
 
 use crate::data::form::{Form, Layout, List};
 use crate::data::records::{
-    BRANCH, COUNT, DEVICE_INFO, MUTED, NUMBER, PERSONALITY, PERSONALITY_TEXT, PRESET, PRODUCT,
-    SELF_TEST, SELF_TEST_TEXT, SENSOR, SENSOR_DEFINITION, SENSOR_EXTREMES, SENSOR_NAME,
+    BRANCH, COUNT, DEVICE_INFO, MUTED, MUTED_PORT, NUMBER, PERSONALITY, PERSONALITY_TEXT, PRESET,
+    PRODUCT, SELF_TEST, SELF_TEST_TEXT, SENSOR, SENSOR_DEFINITION, SENSOR_EXTREMES, SENSOR_NAME,
     SENSOR_RECORDED, SENSOR_VALUE, SLOT, SLOT_TEXT, START_ADDRESS, STATUS_ID, TEXT, VERSION,
 };
 use crate::tables::settings::{
@@ -69,7 +69,7 @@ fn discovery_layout(code: u8, pid: u16) -> Option<Layout>
         return Some(Layout("", Form::Fields(BRANCH)));
     }
     if code == DISCOVERY_COMMAND_RESPONSE && (pid == DISC_MUTE || pid == DISC_UN_MUTE) {
-        return Some(Layout("", Form::Fields(MUTED)));
+        return Some(Layout("", Form::OneOf(MUTED, MUTED_PORT, MUTED_PORT)));
     }
     None
 }

@@ -2,15 +2,13 @@
 
 ghost use Rattle.std.specs.Prelude.{◌≡◌, [], ◌∷◌, ◌++◌, OnOk, option_map, string_bytes};
 ghost use Rattle.rdm_frame.specs.Digits.{digits};
-ghost use Rattle.rdm_words.specs.FieldFacts.{as_parameter, as_place, as_slot_use, slot_use};
+ghost use Rattle.rdm_words.specs.FieldFacts.{as_digits, as_parameter, as_place, as_slot_use, slot_use};
 ghost use Rattle.rdm_words.specs.LaidOut.{listed_words};
-ghost use Rattle.rdm_words.specs.Naming.{PutsFacts};
+ghost use Rattle.rdm_words.specs.Naming.{AddsNames, PutsFacts};
 
 use crate::data::form::Meaning;
 use crate::data::known::Facts;
 use crate::data::own::own_name;
-use crate::data::sensors::{put_measures, put_range};
-use crate::data::statuses::put_status_text;
 use crate::data::times::put_time_or_pin;
 use crate::data::values::{number_of, put_behind, put_coded, put_data, put_named};
 use crate::frame::header::word_in;
@@ -19,8 +17,7 @@ use crate::tables::Table;
 use crate::tables::parameters::parameter;
 use crate::tables::settings::PRESETS;
 use crate::tables::slots::{SLOT_LABELS, SLOT_TYPES};
-use crate::text::put_quoted;
-use rdm_frame::uid_at;
+use crate::text::{put_hex, put_quoted};
 use std::alloc::AllocError;
 use std::fmt::Write;
 
@@ -30,20 +27,12 @@ const PRIMARY: u8 = 0x00;
 /// Tells what lock states are called (E1.37-1).
 const LOCK_STATE_DESCRIPTION: u16 = 0x0642;
 
-/// Which values a sensor keeps.
-const SUPPORT: Table = Table(&[
-    (0x00, "keeps no value"),
-    (0x01, "keeps the recorded value"),
-    (0x02, "keeps the lowest and highest values"),
-    (0x03, "keeps the recorded, lowest and highest values"),
-]);
-
 /// What a device that is muted says of itself by a bit of its control field (section 7.6).
-const FLAGS: &[(u8, &str)] = &[
-    (0x01, ", managed proxy"),
-    (0x02, ", sub-device"),
-    (0x04, ", boot loader"),
-    (0x08, ", proxied device"),
+const FLAGS: &[(u32, &str)] = &[
+    (0x01, "managed proxy"),
+    (0x02, "sub-device"),
+    (0x04, "boot loader"),
+    (0x08, "proxied device"),
 ];
 
 /// The words of slots with this meaning, or the slots themselves if there aren't as many as it has.
@@ -54,19 +43,10 @@ pub(crate) fn put_meaning(
     known: &Facts<'_>,
 ) -> Result<(), AllocError> {
     match (meaning, slots) {
-        (Meaning::StatusText, [a, b]) => {
-            put_status_text(text, u16::from_be_bytes([*a, *b]), known)
-        }
-        (Meaning::Measures, [unit, prefix, a, b, c, d]) => {
-            let low = i16::from_be_bytes([*a, *b]);
-            put_measures(text, *unit, *prefix, low, i16::from_be_bytes([*c, *d]))
-        }
-        (Meaning::Range, [a, b, c, d]) => {
-            let low = i16::from_be_bytes([*a, *b]);
-            put_range(text, low, i16::from_be_bytes([*c, *d]))
-        }
         (Meaning::LockName, [state]) => put_lock_name(text, *state, known),
-        _ => put_rare(text, meaning, slots),
+        (Meaning::ModeScene, [0, 0]) => text.push_str("fixed level"),
+        (Meaning::ModeScene, [a, b]) => put_scene(text, u16::from_be_bytes([*a, *b])),
+        _ => put_time_or_pin(text, meaning, slots),
     }
 }
 
@@ -116,30 +96,6 @@ pub(crate) fn put_place_in(text: &mut String, slots: &[u8]) -> Result<(), AllocE
     put_place(text, word_in(slots))
 }
 
-/// The same for fields that one parameter has.
-fn put_rare(text: &mut String, meaning: Meaning, slots: &[u8]) -> Result<(), AllocError> {
-    match (meaning, slots) {
-        (Meaning::Support, [support]) => match SUPPORT.name(u32::from(*support)) {
-            Some(words) => text.push_str(words),
-            None => write!(text, "support {support:02X}"),
-        },
-        (Meaning::Scene, [a, b]) => put_scene(text, u16::from_be_bytes([*a, *b])),
-        (Meaning::ModeScene, [0, 0]) => text.push_str("fixed level"),
-        (Meaning::ModeScene, [a, b]) => put_scene(text, u16::from_be_bytes([*a, *b])),
-        (Meaning::Flags, [flags]) => put_flags(text, *flags),
-        (Meaning::Binding, []) => Ok(()),
-        (Meaning::Binding, [_, _, _, _, _, _]) => {
-            let uid = uid_at(slots, 0);
-            write!(text, ", binding UID {uid}")
-        }
-        (Meaning::Binding, _) => {
-            text.push_str(", ")?;
-            put_data(text, slots)
-        }
-        _ => put_time_or_pin(text, meaning, slots),
-    }
-}
-
 /// What is played: a scene, none or all of them.
 fn put_scene(text: &mut String, scene: u16) -> Result<(), AllocError> {
     match PRESETS.name(u32::from(scene)) {
@@ -180,10 +136,36 @@ fn put_row(text: &mut String, table: Table, slots: &[u8]) -> Result<(), AllocErr
     put_coded(text, table, slots)
 }
 
-/// The flags of a control field.
-fn put_flags(text: &mut String, flags: u8) -> Result<(), AllocError> {
+/// Slots that are a control field, and what its flags are called.
+#[tactic(auto, using(crate::proofs::Reports::digits_put))]
+pub(crate) fn put_control(text: &mut String, slots: &[u8]) -> Result<(), AllocError>
+    ensures { OnOk result (PutsFacts (as_digits slots.now) (string_bytes text.old) (string_bytes text.new)) }
+{
+    put_hex(text, slots)?;
+    put_flags(text, number_of(slots))
+}
+
+/// What the flags of a control field are called, if any is set.
+#[tactic(auto, using(crate::proofs::Naming::adds_nothing))]
+fn put_flags(text: &mut String, flags: u32) -> Result<(), AllocError>
+    ensures { OnOk result (AddsNames [] (string_bytes text.old) (string_bytes text.new)) }
+{
+    let mut names = String::new(*text.allocator());
+    put_flag_names(&mut names, flags)?;
+    if names.is_empty() {
+        return Ok(());
+    }
+    text.push_str(", ")?;
+    text.push_str(names.as_str())
+}
+
+/// The names of these flags, a comma between two.
+fn put_flag_names(text: &mut String, flags: u32) -> Result<(), AllocError> {
     for flag in FLAGS {
         if flags & flag.0 != 0 {
+            if !text.is_empty() {
+                text.push_str(", ")?;
+            }
             text.push_str(flag.1)?;
         }
     }

@@ -3,8 +3,8 @@
 use crate::data::form::{Field, Meaning, REST, Record, Value};
 use crate::tables::Table;
 use crate::tables::products::PRODUCT_CATEGORIES;
-use crate::tables::sensors::SENSOR_TYPES;
-use crate::tables::settings::SELF_TESTS;
+use crate::tables::sensors::{KEPT_VALUES, SENSOR_TYPES};
+use crate::tables::settings::{PRESETS, SELF_TESTS};
 use rdm_frame::standard::ALL_SENSORS;
 
 /// A text of up to 32 characters.
@@ -123,9 +123,10 @@ pub(crate) const SENSOR_DEFINITION: Record = Record::AtLeast(
         Field("sensor ", 0, 1, Value::Number),
         Field(": ", 13, REST, Value::Text),
         Field(", ", 1, 1, Value::Code(SENSOR_TYPES)),
-        Field(", range ", 2, 6, Value::Other(Meaning::Measures)),
+        Field(", range ", 4, 4, Value::Other(Meaning::Range)),
         Field(", normal ", 8, 4, Value::Other(Meaning::Range)),
-        Field(", ", 12, 1, Value::Other(Meaning::Support)),
+        Field(", unit ", 2, 2, Value::Other(Meaning::Unit)),
+        Field(", ", 12, 1, Value::Code(KEPT_VALUES)),
     ],
 );
 
@@ -190,7 +191,7 @@ pub(crate) const SELF_TEST_TEXT: Record = Record::AtLeast(
 pub(crate) const PRESET: Record = Record::Exactly(
     3,
     &[
-        Field("preset playback ", 0, 2, Value::Other(Meaning::Scene)),
+        Field("preset playback ", 0, 2, Value::Counted("scene ", PRESETS)),
         Field(", level ", 2, 1, Value::Number),
     ],
 );
@@ -213,10 +214,7 @@ pub(crate) const STATUS: Record = Record::Exactly(
 /// A status ID that a controller asks about (section 10.3.3).
 pub(crate) const STATUS_ID: Record = Record::Exactly(
     2,
-    &[
-        Field("status ID ", 0, 2, Value::Digits),
-        Field("", 0, 2, Value::Other(Meaning::StatusText)),
-    ],
+    &[Field("status ID ", 0, 2, Value::Other(Meaning::StatusId))],
 );
 
 /// Between which UIDs devices are looked for (section 7.5).
@@ -228,13 +226,17 @@ pub(crate) const BRANCH: Record = Record::Exactly(
     ],
 );
 
-/// What a device says of itself that is muted, or no longer: its control field and, if it has one, the binding UID
-/// (section 7.6).
-pub(crate) const MUTED: Record = Record::AtLeast(
+/// What a device says of itself that is muted, or no longer: its control field (section 7.6).
+pub(crate) const MUTED: Record = Record::Exactly(
     2,
+    &[Field("control field ", 0, 2, Value::Other(Meaning::Control))],
+);
+
+/// The same of a device that has several ports: the UID that they all are bound to follows.
+pub(crate) const MUTED_PORT: Record = Record::Exactly(
+    8,
     &[
-        Field("control field ", 0, 2, Value::Digits),
-        Field("", 1, 1, Value::Other(Meaning::Flags)),
-        Field("", 2, REST, Value::Other(Meaning::Binding)),
+        Field("control field ", 0, 2, Value::Other(Meaning::Control)),
+        Field(", binding UID ", 2, 6, Value::Other(Meaning::Uid)),
     ],
 );

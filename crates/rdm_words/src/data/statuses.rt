@@ -1,30 +1,52 @@
 //! The words of status messages (E1.20 section 10.3 and table B-2).
 
 ghost use Rattle.std.specs.Prelude.{[], ◌∷◌, OnOk, string_bytes};
-ghost use Rattle.std.specs.Int.{w16, to_be_bytes};
+ghost use Rattle.std.specs.Fmt.{signed_decimal};
+ghost use Rattle.std.specs.Int.{w16, cast_signed, to_be_bytes};
 ghost use Rattle.rdm_frame.specs.Digits.{digits};
-ghost use Rattle.rdm_words.specs.FieldFacts.{as_failure, failure_facts};
+ghost use Rattle.rdm_words.specs.FieldFacts.{as_digits, as_failure, failure_facts};
 ghost use Rattle.rdm_words.specs.Naming.{AddsNames, PutsFacts};
 
 use crate::data::known::Facts;
+use crate::data::sensors::put_signed_word;
 use crate::data::values::{put_behind, put_coded, put_data, put_named};
 use crate::tables::slots::SLOT_LABELS;
 use crate::tables::statuses::{STATUS_IDS, status_type};
-use crate::text::{put_foreign, put_word};
+use crate::text::{put_foreign, put_hex, put_word};
 use std::alloc::AllocError;
 use std::fmt::Write;
 
-/// What a status ID means, if that is known.
-pub(crate) fn put_status_text(
+/// Slots that are a status ID, and what it means, if that is known.
+#[tactic(auto, using(crate::proofs::Reports::digits_put))]
+pub(crate) fn put_status_id(
     text: &mut String,
-    id: u16,
+    slots: &[u8],
     known: &Facts<'_>,
-) -> Result<(), AllocError> {
-    let Some(words) = template(id, known) else {
+) -> Result<(), AllocError>
+    ensures { OnOk result (PutsFacts (as_digits slots.now) (string_bytes text.old) (string_bytes text.new)) }
+{
+    put_hex(text, slots)?;
+    put_status_text(text, slots, known)
+}
+
+/// What the slots of a status ID mean, if that is known.
+#[tactic(auto, using(crate::proofs::Naming::adds_nothing, crate::proofs::Reports::meaning_put))]
+fn put_status_text(text: &mut String, slots: &[u8], known: &Facts<'_>) -> Result<(), AllocError>
+    ensures { OnOk result (AddsNames [] (string_bytes text.old) (string_bytes text.new)) }
+{
+    let Some(words) = text_of(slots, known) else {
         return Ok(());
     };
     text.push_str(", ")?;
     put_foreign(text, words)
+}
+
+/// The text of two slots that are a status ID.
+fn text_of<'a>(slots: &[u8], known: &Facts<'a>) -> Option<&'a [u8]> {
+    match slots {
+        [a, b] => template(u16::from_be_bytes([*a, *b]), known),
+        _ => None,
+    }
 }
 
 /// What a status message tells, but for its sub-device.
@@ -42,12 +64,13 @@ pub(crate) fn put_failure(
     status: &Status,
     known: &Facts<'_>,
 ) -> Result<(), AllocError>
-    ensures { OnOk result (PutsFacts (failure_facts status.now.severity status.now.id) (string_bytes text.old) (string_bytes text.new)) }
+    ensures { OnOk result (PutsFacts (failure_facts status.now.severity status.now.id status.now.first status.now.second)
+        (string_bytes text.old) (string_bytes text.new)) }
 {
     put_named(text, status_type(status.severity), &[status.severity])?;
     text.push_str(", ")?;
     put_meaning(text, status, known)?;
-    put_values(text, status, known)
+    put_values(text, status.first, status.second)
 }
 
 /// The same of seven slots: the status type, the status ID, and two values.
@@ -71,18 +94,18 @@ pub(crate) fn put_failure_in(
     put_failure(text, &status, known)
 }
 
-/// The two values of a status message, if its text doesn't name them.
-fn put_values(text: &mut String, status: &Status, known: &Facts<'_>) -> Result<(), AllocError>
-    ensures { OnOk result (AddsNames [] (string_bytes text.old) (string_bytes text.new)) }
+/// The two values of a status message. Its text may name them, too.
+fn put_values(text: &mut String, first: u16, second: u16) -> Result<(), AllocError>
+    ensures { OnOk result (AddsNames (signed_decimal (cast_signed w16 first) ∷ signed_decimal (cast_signed w16 second) ∷ [])
+        (string_bytes text.old) (string_bytes text.new)) }
 {
-    if has_values(status.id, known) {
-        return Ok(());
-    }
-    let (first, second) = (status.first.cast_signed(), status.second.cast_signed());
-    write!(text, ", values {first} and {second}")
+    text.push_str(", values ")?;
+    put_signed_word(text, first)?;
+    text.push_str(" and ")?;
+    put_signed_word(text, second)
 }
 
-/// The words of a status message without how bad it is: what it is, and no values that its text doesn't name.
+/// The words of a status message without how bad it is: what it is, with the values that its text names.
 pub(crate) fn put_meaning(
     text: &mut String,
     status: &Status,
@@ -107,14 +130,6 @@ fn put_described(text: &mut String, words: &[u8], status: &Status) -> Result<(),
     put_filled(&mut filled, words, status)?;
     text.push_str(filled.as_str())?;
     put_behind(text, &status.id.to_be_bytes())
-}
-
-/// Whether the text of a status ID names the two values.
-fn has_values(id: u16, known: &Facts<'_>) -> bool {
-    match template(id, known) {
-        Some(words) => words.contains(&b'%'),
-        None => false,
-    }
 }
 
 /// The text of a status ID: that of the standard, or of the fixture if it is known.

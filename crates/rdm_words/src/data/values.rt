@@ -12,9 +12,11 @@ ghost use Rattle.rdm_words.specs.Tables.{name_of};
 use crate::data::form::{Field, Form, Layout, Meaning, Record, Value};
 use crate::data::known::Facts;
 use crate::data::lists::{first_entry, put_entries};
-use crate::data::meanings::{put_listed, put_meaning, put_place_in, put_slot_use};
-use crate::data::sensors::{put_measured, put_signed};
-use crate::data::statuses::put_failure_in;
+use crate::data::meanings::{
+    put_control, put_listed, put_meaning, put_place_in, put_slot_use,
+};
+use crate::data::sensors::{put_measured, put_range_in, put_signed, put_unit_code};
+use crate::data::statuses::{put_failure_in, put_status_id};
 use crate::tables::Table;
 use crate::tables::statuses::status_type;
 use crate::text::{put_hex, put_quoted};
@@ -239,6 +241,10 @@ fn put_special(
         Meaning::Place => put_place_in(text, slots),
         Meaning::Failure => put_failure_in(text, slots, known),
         Meaning::SlotUse => put_slot_use(text, slots),
+        Meaning::StatusId => put_status_id(text, slots, known),
+        Meaning::Range => put_range_in(text, slots),
+        Meaning::Unit => put_unit_code(text, slots),
+        Meaning::Control => put_control(text, slots),
         _ => put_apart(text, meaning, slots, known),
     }
 }

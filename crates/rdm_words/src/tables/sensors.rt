@@ -97,3 +97,11 @@ pub const UNIT_PREFIXES: Table = Table(&[
     (0x19, "Z"),
     (0x1A, "Y"),
 ]);
+
+/// Which values a sensor keeps: bit 0 is the recorded one, bit 1 the lowest and the highest (section 10.7.1).
+pub const KEPT_VALUES: Table = Table(&[
+    (0x00, "keeps no value"),
+    (0x01, "keeps the recorded value"),
+    (0x02, "keeps the lowest and highest values"),
+    (0x03, "keeps the recorded, lowest and highest values"),
+]);

@@ -111,7 +111,7 @@ CC01337FF0000000021234DEADBEEF00000000002100301B00000300460000000000000200620211
 1234:DEADBEEF answers 7FF0:00000002: ACK, GET response STATUS_MESSAGES (0030), root, transaction 0
   status: warning (03), lamp or cable failure (0046), values 0 and 0, root
   status: advisory (02), FPGA programming error (0062), values 529 and 0, root
-  status: advisory (02), proxy dropped a broadcast: PID 0082 at transaction 7 (0070), root
+  status: advisory (02), proxy dropped a broadcast: PID 0082 at transaction 7 (0070), values 130 and 7, root
 
 CC01227FF0000000021234DEADBEEF00000000002101200A00000002110001000508064B
 1234:DEADBEEF answers 7FF0:00000002: ACK, GET response SLOT_INFO (0120), root, transaction 0

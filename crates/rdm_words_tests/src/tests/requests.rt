@@ -218,4 +218,4 @@ GET PRESET_PLAYBACK (1031), root, transaction 0
 
 CC011B7FF0000000017FF000000002000100000030103103FFFF8006BC
 SET PRESET_PLAYBACK (1031), root, transaction 0
-  preset playback all, level 128";
+  preset playback all (FFFF), level 128";

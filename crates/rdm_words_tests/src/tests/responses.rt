@@ -5,7 +5,7 @@ pub(super) const RESPONSES: &str =
     "CC01337FF0000000027FF00000000100000000002100301B000004800100020000000513002100010050FFFF424321FFFF00030A03
 ACK, GET response STATUS_MESSAGES (0030), root, transaction 0
   status: error (04), Lamp failed to strike (8001), values 2 and 0, root
-  status: warning cleared (13), sensor 1 over temp at 80 degrees C (0021), sub-device 5
+  status: warning cleared (13), sensor 1 over temp at 80 degrees C (0021), values 1 and 80, sub-device 5
   status: 42, status ID 4321, values -1 and 3, all sub-devices
 
 CC01287FF0000000027FF00000000100000000002100311053656C662074657374206661696C65640A27
@@ -117,19 +117,23 @@ ACK, GET response DEFAULT_SLOT_VALUE (0122), root, transaction 0
 
 CC01357FF0000000027FF00000000100000000002102001D00000100FFEC007800000050034C616D702074656D70657261747572650D32
 ACK, GET response SENSOR_DEFINITION (0200), root, transaction 0
-  sensor 0: \"Lamp temperature\", temperature (00), range -20 to 120 °C, normal 0 to 80, keeps the recorded, lowest and highest values
+  sensor 0: \"Lamp temperature\", temperature (00), range -20 to 120, normal 0 to 80, unit °C (0100), keeps the recorded, lowest and highest values (03)
 
 CC01297FF0000000027FF0000000010000000000210200110000010080007FFF80007FFF034C616D700995
 ACK, GET response SENSOR_DEFINITION (0200), root, transaction 0
-  sensor 0: \"Lamp\", temperature (00), range not defined, in °C, normal not defined, keeps the recorded, lowest and highest values
+  sensor 0: \"Lamp\", temperature (00), range not defined, normal not defined, unit °C (0100), keeps the recorded, lowest and highest values (03)
 
 CC01297FF0000000027FF000000001000000000021020011000001008000007800007FFF034C616D70080F
 ACK, GET response SENSOR_DEFINITION (0200), root, transaction 0
-  sensor 0: \"Lamp\", temperature (00), range up to 120 °C, normal from 0, keeps the recorded, lowest and highest values
+  sensor 0: \"Lamp\", temperature (00), range up to 120, normal from 0, unit °C (0100), keeps the recorded, lowest and highest values (03)
 
 CC01297FF0000000027FF0000000010000000000210200110000000080007FFF00010002034C616D700799
 ACK, GET response SENSOR_DEFINITION (0200), root, transaction 0
-  sensor 0: \"Lamp\", temperature (00), range not defined, normal 1 to 2, keeps the recorded, lowest and highest values
+  sensor 0: \"Lamp\", temperature (00), range not defined, normal 1 to 2, unit none (0000), keeps the recorded, lowest and highest values (03)
+
+CC01297FF0000000027FF0000000010000000000210200110000FF7F0000006480000064014C616D70085C
+ACK, GET response SENSOR_DEFINITION (0200), root, transaction 0
+  sensor 0: \"Lamp\", temperature (00), range 0 to 100, normal up to 100, unit unknown (FF7F), keeps the recorded value (01)
 
 CC01217FF0000000027FF00000000100000000002102010900002D0014002DFFFF0668
 ACK, GET response SENSOR_VALUE (0201), root, transaction 0

@@ -16,6 +16,6 @@ pub returns-in_ok-push_str-in-Failed : goal.returns-in_ok-push_str-in-Failed
 returns-in_ok-push_str-in-Failed c =
     subst (λ (o : Outcome). OnOk c.put_failure.result (AddsNames (outcome_facts o) (string_bytes c.args.text.now) (string_bytes c.put_failure.new.text)))
     (sym c.in-Failed.is)
-    (subst (λ (s : ℕ). OnOk c.put_failure.result (AddsNames (failure_facts s c.in-Failed.id) (string_bytes c.args.text.now) (string_bytes c.put_failure.new.text)))
+    (subst (λ (s : ℕ). OnOk c.put_failure.result (AddsNames (failure_facts s c.in-Failed.id c.in-Failed.v1 c.in-Failed.v2) (string_bytes c.args.text.now) (string_bytes c.put_failure.new.text)))
     c.code.ensures
-    (adds_separated c.put_failure.result (failure_facts c.code.result c.in-Failed.id) (codes " has failed: ") _ _ _ refl c.in_ok-push_str-in-Failed.ensures.bytes c.put_failure.ensures))
+    (adds_separated c.put_failure.result (failure_facts c.code.result c.in-Failed.id c.in-Failed.v1 c.in-Failed.v2) (codes " has failed: ") _ _ _ refl c.in_ok-push_str-in-Failed.ensures.bytes c.put_failure.ensures))
