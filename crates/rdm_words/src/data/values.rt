@@ -12,9 +12,7 @@ ghost use Rattle.rdm_words.specs.Tables.{name_of};
 use crate::data::form::{Field, Form, Layout, Meaning, Record, Value};
 use crate::data::known::Facts;
 use crate::data::lists::{first_entry, put_entries};
-use crate::data::meanings::{
-    put_control, put_listed, put_meaning, put_place_in, put_slot_use,
-};
+use crate::data::meanings::{put_control, put_listed, put_meaning, put_place_in, put_slot_use};
 use crate::data::sensors::{put_measured, put_range_in, put_signed, put_unit_code};
 use crate::data::statuses::{put_failure_in, put_status_id};
 use crate::tables::Table;
