@@ -2,6 +2,8 @@
  * leaves the old values or the new. docs/SAVED.md has the form of an image, and says why its check has to be this one. */
 #include "board.h"
 #include "fixture.h"
+#include <felosumay_names.h>
+#include <felosumay_values.h>
 #include <string.h>
 
 enum { CHECK = 0, KEY = 4, COUNTER = 8, LENGTH = 10, PAYLOAD = 12, VALUES = FELOSUMAY_SAVED_BYTES(CELLS, SENSORS, 0, 0, 0, 0) };
@@ -52,12 +54,14 @@ static uint8_t find_newest(void) {
     return has_first ? 0 : NO_AREA;
 }
 
-/* At power-on, before anything is heard. Without an image the values stay those of the profile. */
+/* At power-on, before anything is heard. Without an image the values stay those of the profile, and it is the first power-on. */
 void values_load(void) {
     newest = find_newest();
     is_saved = newest != NO_AREA && is_held(newest);
-    if (is_saved)
+    if (is_saved) /* this counts a power cycle */
         felosumay_responder_restore(&fixture, image + PAYLOAD, VALUES);
+    else
+        felosumay_place_u32(&fixture, 0, FELOSUMAY_PID_DEVICE_POWER_CYCLES, 1);
     values_changed();
 }
 

@@ -54,6 +54,6 @@ run_program() {
 
 run_on() {
     timeout 600 "$1" -M "$machine" "${@:3}" -nographic -monitor none -serial none -semihosting-config enable=on,target=native \
-        -kernel "$2" 2>&1 | tr -d '\r'
+        -kernel "$2" 2>&1 | sed -u 's/\r$//'
     return "${PIPESTATUS[0]}"
 }
