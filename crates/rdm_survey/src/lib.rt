@@ -1,0 +1,21 @@
+//! What a survey of an RDM line says: which fixtures there are, and which of their slots clash.
+//!
+//! A `Row` is what is known of a fixture. `clashes` finds the slots that two of them take, `sort` puts them in order, `put_csv` and
+//! `put_json` write them as documents that are read back as what they say, and `put_heading` and `put_row` as a table.
+#![tactic(auto)]
+
+mod clashing;
+mod columns;
+mod device_info;
+mod documents;
+mod order;
+mod place;
+mod row;
+
+pub use clashing::clashes;
+pub use columns::{put_heading, put_row};
+pub use device_info::DeviceInfo;
+pub use documents::{put_csv, put_json};
+pub use order::{Order, sort};
+pub use place::{Clash, Place};
+pub use row::{Row, StatusCounts, SubDevice};
