@@ -1,7 +1,8 @@
 -- The order of rows: by a key, and then by UID. What isn't told comes last.
 use Rattle.std.specs.Prelude.{ℕ, List, [], Option, Some, None, unwrap_or, option_and_then}
-use Rattle.std.specs.Ordering.{Ordering, nat_cmp, ordering_then, is_lt}
-use Rattle.std.specs.Ordering.{Less, Equal, Greater}
+use Rattle.std.specs.Ordering.{nat_cmp, ordering_then}
+use Rattle.std.specs.declared.cmp.Ordering.{Ordering}
+use Rattle.std.specs.declared.cmp.Ordering.TheVariants.{Equal}
 use Rattle.std.specs.Cmp.Lexicographic.{slice_cmp}
 use Rattle.rdm_frame.specs.UidNumber.{uid_number}
 use Rattle.rdm_survey.specs.declared.device_info.DeviceInfo.{DeviceInfo}

@@ -28,44 +28,44 @@ pub struct DeviceInfo {
 
 impl DeviceInfo {
     /// What the parameter data of a reply to DEVICE_INFO tell, or `None` if they aren't 19 slots.
-    pub fn of(data: &[u8]) -> Option<DeviceInfo>
-        ensures { result ≡ device_info_in data.now }
+    pub fn of(slots: &[u8]) -> Option<DeviceInfo>
+        ensures { result ≡ device_info_in slots.now }
     {
-        if data.len() != 19 {
+        if slots.len() != 19 {
             return None;
         }
         Some(DeviceInfo {
-            model_id: word_at(data, 2),
-            category: word_at(data, 4),
-            software_id: long_at(data, 6),
-            footprint: word_at(data, 10),
-            personality: data[12],
-            personalities: data[13],
-            address: address_in(word_at(data, 14)),
-            sub_devices: word_at(data, 16),
-            sensors: data[18],
+            model_id: word_at(slots, 2),
+            category: word_at(slots, 4),
+            software_id: long_at(slots, 6),
+            footprint: word_at(slots, 10),
+            personality: slots[12],
+            personalities: slots[13],
+            address: address_in(word_at(slots, 14)),
+            sub_devices: word_at(slots, 16),
+            sensors: slots[18],
         })
     }
 }
 
 /// The number in two slots.
-fn word_at(data: &[u8], place: usize) -> u16
-    requires { place + 2 ≤ length data.now }
-    ensures { result ≡ word_at data.now place }
+fn word_at(slots: &[u8], place: usize) -> u16
+    requires { place + 2 ≤ length slots.now }
+    ensures { result ≡ word_at slots.now place }
 {
-    u16::from_be_bytes([data[place], data[place + 1]])
+    u16::from_be_bytes([slots[place], slots[place + 1]])
 }
 
 /// The number in four slots.
-fn long_at(data: &[u8], place: usize) -> u32
-    requires { place + 4 ≤ length data.now }
-    ensures { result ≡ long_at data.now place }
+fn long_at(slots: &[u8], place: usize) -> u32
+    requires { place + 4 ≤ length slots.now }
+    ensures { result ≡ long_at slots.now place }
 {
     u32::from_be_bytes([
-        data[place],
-        data[place + 1],
-        data[place + 2],
-        data[place + 3],
+        slots[place],
+        slots[place + 1],
+        slots[place + 2],
+        slots[place + 3],
     ])
 }
 
