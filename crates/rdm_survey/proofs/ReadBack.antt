@@ -58,14 +58,15 @@ both_below : (p q r s : ℕ) → p ≤ s → r ≤ q → (nat_le p s && nat_le r
 both_below p q r s h g = grind (arith, nat_tests)
 
 pub in_a_slot : (a b : Place) → a.first ≤ a.last → b.first ≤ b.last → (meets a b ≡ true) ↔ ((slot : ℕ) × (Takes a slot × Takes b slot))
-in_a_slot a b h g =
-    (λ t.
+in_a_slot a b h g = (
+  λ t.
       let one : a.first ≤ b.last = first_below a.first a.last b.first b.last t in
       let other : b.first ≤ a.last = second_below a.first a.last b.first b.last t in
       (max a.first b.first, ((omega arith, omega arith), (omega arith, omega arith))),
-    λ w.
+  λ w.
       let in_first : a.first ≤ w.0 = w.1.0.0 in
       let to_first : w.0 ≤ a.last = w.1.0.1 in
       let in_second : b.first ≤ w.0 = w.1.1.0 in
       let to_second : w.0 ≤ b.last = w.1.1.1 in
-      both_below a.first a.last b.first b.last (omega arith) (omega arith))
+      both_below a.first a.last b.first b.last (omega arith) (omega arith),
+)

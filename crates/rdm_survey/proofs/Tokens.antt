@@ -84,5 +84,5 @@ pub document_of : (rows : List Row) → tokens (json_text rows) ≡ json_tokens 
 document_of rows e =
     let shallow : depth (survey_json rows) ≤ max_depth = omega (arith, rows_depth (clashes rows) rows) in
     ap (λ (p : Option (Json × List Token)). option_and_then (λ q. if_last q.0 q.1) p)
-      (ap (λ (ts : List Token). value max_depth ts) (e ∙ sym (append-nil (json_tokens (survey_json rows))))
-      ∙ value-json_tokens (survey_json rows) max_depth [] shallow)
+    (ap (λ (ts : List Token). value max_depth ts) (e ∙ sym (append-nil (json_tokens (survey_json rows))))
+    ∙ value-json_tokens (survey_json rows) max_depth [] shallow)
