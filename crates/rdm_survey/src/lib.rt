@@ -1,0 +1,32 @@
+//! What a survey of an RDM line says: which fixtures there are, and which of their slots clash.
+//!
+//! A `Row` is what is known of a fixture. `clashes` finds the slots that two of them take, `sort` puts them in order, `put_csv` and
+//! `put_json` write them as documents that are read back as what they say, and `put_heading` and `put_row` as a table.
+#![tactic(auto)]
+
+mod clashing;
+mod column_words;
+mod columns;
+mod csv_text;
+mod device_info;
+mod json_text;
+mod laws;
+mod member;
+mod order;
+mod partner;
+mod place;
+mod row;
+mod shown;
+
+pub use clashing::clashes;
+pub use columns::{put_heading, put_row};
+pub use csv_text::{KEYS, put_csv};
+pub use device_info::DeviceInfo;
+pub use json_text::put_json;
+pub use laws::{
+    csv_is_read_back, device_infos_are_equal_by_value, guarded_word_is_read_back,
+    members_have_the_keys, places_meet_in_a_slot, shown_text_is_read_back,
+};
+pub use order::{Order, sort};
+pub use place::{Clash, Place};
+pub use row::{Row, StatusCounts, SubDevice};
