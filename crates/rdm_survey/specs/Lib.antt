@@ -1,0 +1,3 @@
+pub mod DeviceInfos
+pub mod Orders
+pub mod Places

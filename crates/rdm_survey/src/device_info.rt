@@ -1,5 +1,8 @@
 //! What DEVICE_INFO tells (E1.20 section 10.5.1).
 
+ghost use Rattle.std.specs.Prelude.{◌≡◌, ◌+◌, ◌≤◌, length};
+ghost use Rattle.rdm_survey.specs.DeviceInfos.{address_in, device_info_in, long_at, word_at};
+
 /// What a fixture answers to DEVICE_INFO (E1.20 section 10.5.1), without the version of the protocol.
 #[derive(Clone, Copy, Debug, PartialEq, Eq)]
 pub struct DeviceInfo {
@@ -25,46 +28,50 @@ pub struct DeviceInfo {
 
 impl DeviceInfo {
     /// What the parameter data of a reply to DEVICE_INFO tell, or `None` if they aren't 19 slots.
-    pub fn of(data: &[u8]) -> Option<DeviceInfo> {
-        let &[
-            _,
-            _,
-            model_high,
-            model_low,
-            category_high,
-            category_low,
-            software_a,
-            software_b,
-            software_c,
-            software_d,
-            footprint_high,
-            footprint_low,
-            personality,
-            personalities,
-            address_high,
-            address_low,
-            subs_high,
-            subs_low,
-            sensors,
-        ] = data
-        else {
+    pub fn of(slots: &[u8]) -> Option<DeviceInfo>
+        ensures { result ≡ device_info_in slots.now }
+    {
+        if slots.len() != 19 {
             return None;
-        };
+        }
         Some(DeviceInfo {
-            model_id: u16::from_be_bytes([model_high, model_low]),
-            category: u16::from_be_bytes([category_high, category_low]),
-            software_id: u32::from_be_bytes([software_a, software_b, software_c, software_d]),
-            footprint: u16::from_be_bytes([footprint_high, footprint_low]),
-            personality,
-            personalities,
-            address: address_of(u16::from_be_bytes([address_high, address_low])),
-            sub_devices: u16::from_be_bytes([subs_high, subs_low]),
-            sensors,
+            model_id: word_at(slots, 2),
+            category: word_at(slots, 4),
+            software_id: long_at(slots, 6),
+            footprint: word_at(slots, 10),
+            personality: slots[12],
+            personalities: slots[13],
+            address: address_in(word_at(slots, 14)),
+            sub_devices: word_at(slots, 16),
+            sensors: slots[18],
         })
     }
 }
 
+/// The number in two slots.
+fn word_at(slots: &[u8], place: usize) -> u16
+    requires { place + 2 ≤ length slots.now }
+    ensures { result ≡ word_at slots.now place }
+{
+    u16::from_be_bytes([slots[place], slots[place + 1]])
+}
+
+/// The number in four slots.
+fn long_at(slots: &[u8], place: usize) -> u32
+    requires { place + 4 ≤ length slots.now }
+    ensures { result ≡ long_at slots.now place }
+{
+    u32::from_be_bytes([
+        slots[place],
+        slots[place + 1],
+        slots[place + 2],
+        slots[place + 3],
+    ])
+}
+
 /// The start address in its field: 0xFFFF says that there is none.
-fn address_of(field: u16) -> Option<u16> {
+fn address_in(field: u16) -> Option<u16>
+    ensures { result ≡ address_in field }
+{
     if field == 0xFFFF { None } else { Some(field) }
 }
