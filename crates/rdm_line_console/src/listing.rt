@@ -185,7 +185,7 @@ impl<'a, H: Host, P: Port, F: Write> Console<'a, H, P, F> {
             return Ok(());
         }
         let alloc = self.teller.rt().alloc();
-        sort(alloc, rows, listing.order)?;
+        sort(rows, listing.order);
         let mut text = Vec::new(alloc);
         match listing.format {
             Format::Table => put_table(alloc, rows, &mut text)?,
@@ -224,7 +224,7 @@ impl<'a, H: Host, P: Port, F: Write> Console<'a, H, P, F> {
     fn tell_clashes(&self, listing: Listing, rows: &mut [Row]) -> Result<(), Fault<'a>> {
         let teller = self.beside(listing);
         let alloc = teller.rt().alloc();
-        sort(alloc, rows, Order::Uid)?;
+        sort(rows, Order::Uid);
         let clashes = clashes(alloc, rows)?;
         for clash in clashes.iter().take(MOST_CLASHES) {
             let mut line = String::new(alloc);

@@ -1,9 +1,13 @@
 //! A parameter of a fixture is read.
 
+ghost use Rattle.std.specs.Prelude.{OnOk};
+ghost use Rattle.rdm_surveyor.specs.Getting.{GoesOn, GoesOnTrying};
+
 use crate::SurveyFault;
 use rdm_collector::{Load, read_reply};
 use rdm_console::{Action, Command, Mailbox, Port, Response, Wire, ask_through};
 use rdm_frame::Text;
+use rdm_survey::DeviceInfo;
 
 /// The parameter ID of what a device is (E1.20 section 10.5.1).
 pub(crate) const DEVICE_INFO: u16 = 0x0060;
@@ -26,33 +30,28 @@ const DMX_PERSONALITY_DESCRIPTION: u16 = 0x00E1;
 /// The parameter ID of how long a device has run (section 10.8.1).
 const DEVICE_HOURS: u16 = 0x0400;
 
-/// A GET of a parameter of the root, or of a sub-device.
-fn question(mailbox: &Mailbox, sub: u16, pid: u16, data: &[u8]) -> Option<Command> {
-    let load = Load::from_slice(data)?;
-    Some(Command {
-        dst: mailbox.uid(),
-        action: Action::Get,
-        sub,
-        pid,
-        load,
-    })
-}
-
 /// What a fixture replies to a GET, which is sent again while it doesn't; nothing if it never does.
 pub(crate) fn ask<P: Port>(
     mailbox: &mut Mailbox,
     port: &mut P,
     sub: u16,
     pid: u16,
-) -> Result<Option<Wire>, SurveyFault> {
+    load: Load,
+) -> Result<Option<Wire>, SurveyFault>
+    ensures got { OnOk result (GoesOn P.hears port.old port.new) }
+    ensures tried { GoesOnTrying P.hears P.fails port.old port.new }
+{
     let command = Command {
         dst: mailbox.uid(),
         action: Action::Get,
         sub,
         pid,
-        load: Load::new(),
+        load,
     };
-    Ok(ask_through(mailbox, port, &command)?)
+    match ask_through(mailbox, port, &command) {
+        Ok(reply) => Ok(reply),
+        Err(fault) => Err(SurveyFault::from(fault)),
+    }
 }
 
 /// The text that a fixture tells of this parameter.
@@ -60,36 +59,54 @@ pub(crate) fn ask_text<P: Port>(
     mailbox: &mut Mailbox,
     port: &mut P,
     pid: u16,
-) -> Result<Option<Text>, SurveyFault> {
-    let reply = ask(mailbox, port, 0, pid)?;
-    Ok(text_in(&reply))
+) -> Result<Option<Text>, SurveyFault>
+    ensures got { OnOk result (GoesOn P.hears port.old port.new) }
+    ensures tried { GoesOnTrying P.hears P.fails port.old port.new }
+{
+    match ask(mailbox, port, 0, pid, Load::new()) {
+        Ok(reply) => Ok(text_in(&reply)),
+        Err(fault) => Err(fault),
+    }
 }
 
 /// How many hours a fixture says that it has run.
 pub(crate) fn ask_hours<P: Port>(
     mailbox: &mut Mailbox,
     port: &mut P,
-) -> Result<Option<u32>, SurveyFault> {
-    let reply = ask(mailbox, port, 0, DEVICE_HOURS)?;
-    Ok(hours_in(&reply))
+) -> Result<Option<u32>, SurveyFault>
+    ensures got { OnOk result (GoesOn P.hears port.old port.new) }
+    ensures tried { GoesOnTrying P.hears P.fails port.old port.new }
+{
+    match ask(mailbox, port, 0, DEVICE_HOURS, Load::new()) {
+        Ok(reply) => Ok(hours_in(&reply)),
+        Err(fault) => Err(fault),
+    }
 }
 
-/// What a fixture calls this personality.
+/// What a fixture calls its personality, if it has any.
 pub(crate) fn ask_personality<P: Port>(
     mailbox: &mut Mailbox,
     port: &mut P,
-    personality: u8,
-) -> Result<Option<Text>, SurveyFault> {
-    let Some(command) = question(
-        mailbox,
-        0,
-        DMX_PERSONALITY_DESCRIPTION,
-        &[personality],
-    ) else {
+    device: &Option<DeviceInfo>,
+) -> Result<Option<Text>, SurveyFault>
+    ensures got { OnOk result (GoesOn P.hears port.old port.new) }
+    ensures tried { GoesOnTrying P.hears P.fails port.old port.new }
+{
+    let Some(number) = personality_of(device) else {
         return Ok(None);
     };
-    let reply = ask_through(mailbox, port, &command)?;
-    Ok(personality_in(personality, &reply))
+    match ask(mailbox, port, 0, DMX_PERSONALITY_DESCRIPTION, Load::of(&[number])) {
+        Ok(reply) => Ok(personality_in(number, &reply)),
+        Err(fault) => Err(fault),
+    }
+}
+
+/// The personality of a fixture, if it has any.
+fn personality_of(device: &Option<DeviceInfo>) -> Option<u8> {
+    match device {
+        Some(info) if info.personalities > 0 && info.personality > 0 => Some(info.personality),
+        _ => None,
+    }
 }
 
 /// The data of a reply, if it is an ACK.

@@ -13,4 +13,4 @@ mod surveying;
 
 pub use fault::SurveyFault;
 pub use reports::{Report, Statuses};
-pub use surveying::{Survey, survey};
+pub use surveying::{Surveyed, survey};

@@ -1,8 +1,11 @@
 //! The sub-devices of a fixture.
 
+ghost use Rattle.std.specs.Prelude.{OnOk};
+ghost use Rattle.rdm_surveyor.specs.Getting.{GoesOn, GoesOnTrying};
+
 use crate::SurveyFault;
 use crate::asking::{DEVICE_INFO, ask, data_in};
-use rdm_collector::read_reply;
+use rdm_collector::{Load, read_reply};
 use rdm_console::{Mailbox, Port, Response, Wire};
 use rdm_frame::standard::MOST_SUB_DEVICES;
 use rdm_survey::{DeviceInfo, SubDevice};
@@ -17,21 +20,50 @@ pub(crate) fn ask_subs<P: Port>(
     port: &mut P,
     count: u16,
     told: &mut Vec<SubDevice>,
-) -> Result<(), SurveyFault> {
+) -> Result<(), SurveyFault>
+    ensures got { OnOk result (GoesOn P.hears port.old port.new) }
+    ensures tried { GoesOnTrying P.hears P.fails port.old port.new }
+{
     let mut left = count;
     for number in 1..=MOST_SUB_DEVICES {
         if left == 0 {
             return Ok(());
         }
-        let reply = ask(mailbox, port, number, DEVICE_INFO)?;
-        if let Some(sub) = sub_in(number, &reply) {
-            told.push(sub)?;
-        }
-        if !is_none(&reply) {
-            left = left.saturating_sub(1);
+        match ask_sub(mailbox, port, number, told) {
+            Ok(is_there) => left = left.saturating_sub(u16::from(is_there)),
+            Err(fault) => return Err(fault),
         }
     }
     Ok(())
+}
+
+/// Asks a sub-device for its DEVICE_INFO, and puts what it tells at the end of a list. Gives whether there is one with this number, as far as
+/// the fixture says.
+fn ask_sub<P: Port>(
+    mailbox: &mut Mailbox,
+    port: &mut P,
+    number: u16,
+    told: &mut Vec<SubDevice>,
+) -> Result<bool, SurveyFault>
+    ensures got { OnOk result (GoesOn P.hears port.old port.new) }
+    ensures tried { GoesOnTrying P.hears P.fails port.old port.new }
+{
+    match ask(mailbox, port, number, DEVICE_INFO, Load::new()) {
+        Ok(reply) => put_sub(number, &reply, told),
+        Err(fault) => Err(fault),
+    }
+}
+
+/// Puts what a sub-device replied at the end of a list. Gives whether there is one with this number.
+fn put_sub(
+    number: u16,
+    reply: &Option<Wire>,
+    told: &mut Vec<SubDevice>,
+) -> Result<bool, SurveyFault> {
+    if let Some(sub) = sub_in(number, reply) {
+        told.push(sub)?;
+    }
+    Ok(!is_none(reply))
 }
 
 /// The sub-device with this number, by its reply to DEVICE_INFO.

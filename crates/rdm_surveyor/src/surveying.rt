@@ -1,5 +1,8 @@
 //! A fixture is asked for all that a survey tells of it.
 
+ghost use Rattle.std.specs.Prelude.{OnOk};
+ghost use Rattle.rdm_surveyor.specs.Getting.{GoesOn, GoesOnTrying, HasGot, HasTried};
+
 use crate::asking::{
     DEVICE_INFO, DEVICE_LABEL, DEVICE_MODEL_DESCRIPTION, MANUFACTURER_LABEL,
     SOFTWARE_VERSION_LABEL, ask, ask_hours, ask_personality, ask_text, data_in, text_in,
@@ -7,13 +10,14 @@ use crate::asking::{
 use crate::reports::fetch;
 use crate::subs::ask_subs;
 use crate::{Report, SurveyFault};
+use rdm_collector::Load;
 use rdm_console::{Mailbox, Port, Uid, Want, Wire};
 use rdm_survey::{DeviceInfo, Row};
 use std::alloc::Global;
 
 /// What a fixture told.
 #[derive(Debug, Drop)]
-pub struct Survey {
+pub struct Surveyed {
     /// Its row.
     pub row: Row,
     /// Whether it may have more status messages, since it gave more than are fetched at once.
@@ -28,11 +32,16 @@ pub fn survey<P: Port>(
     uid: Uid,
     port: &mut P,
     reports: &mut Vec<Report>,
-) -> Result<Survey, SurveyFault> {
+) -> Result<Surveyed, SurveyFault>
+    // It sends GETs and nothing else.
+    ensures got { OnOk result (HasGot P.hears port.old port.new) }
+    // So it does if it stops: at the last of them the port failed, or there is no memory.
+    ensures tried { HasTried P.hears P.fails port.old port.new }
+{
     let mut mailbox = Mailbox::new(alloc, console, uid, Want::Warning);
     let mut row = untold(alloc, uid);
     if !ask_first(&mut mailbox, port, &mut row)? {
-        return Ok(Survey {
+        return Ok(Surveyed {
             row,
             has_more: false,
         });
@@ -46,7 +55,7 @@ pub fn survey<P: Port>(
         subs_of(&row.device),
         &mut row.sub_devices,
     )?;
-    Ok(Survey {
+    Ok(Surveyed {
         row,
         has_more: statuses.has_more,
     })
@@ -74,10 +83,13 @@ fn ask_first<P: Port>(
     mailbox: &mut Mailbox,
     port: &mut P,
     row: &mut Row,
-) -> Result<bool, SurveyFault> {
-    let info = ask(mailbox, port, 0, DEVICE_INFO)?;
+) -> Result<bool, SurveyFault>
+    ensures got { OnOk result (GoesOn P.hears port.old port.new) }
+    ensures tried { GoesOnTrying P.hears P.fails port.old port.new }
+{
+    let info = ask(mailbox, port, 0, DEVICE_INFO, Load::new())?;
     row.device = info_in(&info);
-    let maker = ask(mailbox, port, 0, MANUFACTURER_LABEL)?;
+    let maker = ask(mailbox, port, 0, MANUFACTURER_LABEL, Load::new())?;
     row.manufacturer = text_in(&maker);
     Ok(info.is_some() || maker.is_some())
 }
@@ -87,12 +99,13 @@ fn ask_texts<P: Port>(
     mailbox: &mut Mailbox,
     port: &mut P,
     row: &mut Row,
-) -> Result<(), SurveyFault> {
+) -> Result<(), SurveyFault>
+    ensures got { OnOk result (GoesOn P.hears port.old port.new) }
+    ensures tried { GoesOnTrying P.hears P.fails port.old port.new }
+{
     row.model = ask_text(mailbox, port, DEVICE_MODEL_DESCRIPTION)?;
     row.label = ask_text(mailbox, port, DEVICE_LABEL)?;
-    if let Some(number) = personality_of(&row.device) {
-        row.personality = ask_personality(mailbox, port, number)?;
-    }
+    row.personality = ask_personality(mailbox, port, &row.device)?;
     row.software = ask_text(mailbox, port, SOFTWARE_VERSION_LABEL)?;
     row.hours = ask_hours(mailbox, port)?;
     Ok(())
@@ -108,13 +121,5 @@ fn subs_of(device: &Option<DeviceInfo>) -> u16 {
     match device {
         Some(info) => info.sub_devices,
         None => 0,
-    }
-}
-
-/// The personality of a fixture, if it has any.
-fn personality_of(device: &Option<DeviceInfo>) -> Option<u8> {
-    match device {
-        Some(info) if info.personalities > 0 && info.personality > 0 => Some(info.personality),
-        _ => None,
     }
 }

@@ -5,7 +5,8 @@ use rdm_frame::digits::bytes_in;
 use rdm_frame::{Body, Frame, Text, Uid, Wire, decode_view, encode};
 use rdm_survey::{Row, StatusCounts};
 use rdm_surveyor::{Report, SurveyFault, survey};
-use std::alloc::Global;
+use std::alloc::{AllocError, Global};
+
 use std::fmt::Write;
 use std::str;
 use std::test::Fail;
@@ -70,7 +71,7 @@ impl Port for Fixture {
 }
 
 /// Tells what is asked.
-fn tell(asked: &mut String, pid: u16, sub: u16, data: &[u8]) -> Result<(), Fail> {
+fn tell(asked: &mut String, pid: u16, sub: u16, data: &[u8]) -> Result<(), AllocError> {
     write!(asked, "{pid:04X}")?;
     if sub > 0 {
         write!(asked, "/{sub}")?;
@@ -78,8 +79,7 @@ fn tell(asked: &mut String, pid: u16, sub: u16, data: &[u8]) -> Result<(), Fail>
     for byte in data {
         write!(asked, "={byte}")?;
     }
-    asked.push_str(" ")?;
-    Ok(())
+    write!(asked, " ")
 }
 
 /// An answer to STATUS_MESSAGES.
