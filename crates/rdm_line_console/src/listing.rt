@@ -190,7 +190,10 @@ impl<'a, H: Host, P: Port, F: Write> Console<'a, H, P, F> {
         match listing.format {
             Format::Table => put_table(alloc, rows, &mut text)?,
             Format::Csv => put_csv(alloc, rows, &mut text)?,
-            Format::Json => put_json(alloc, rows, &mut text)?,
+            Format::Json => {
+                put_json(alloc, rows, &mut text)?;
+                text.extend_from_slice(b"\n")?;
+            }
         }
         self.teller.tell(text.as_slice())
     }
@@ -220,9 +223,12 @@ impl<'a, H: Host, P: Port, F: Write> Console<'a, H, P, F> {
         Ok(())
     }
 
-    /// Tells which slots clash, in the order of the UIDs.
+    /// Tells below a table which slots clash, in the order of the UIDs. A document has that in itself.
     fn tell_clashes(&self, listing: Listing, rows: &mut [Row]) -> Result<(), Fault<'a>> {
-        let teller = self.beside(listing);
+        if listing.format != Format::Table {
+            return Ok(());
+        }
+        let teller = self.teller;
         let alloc = teller.rt().alloc();
         sort(rows, Order::Uid);
         let clashes = clashes(alloc, rows)?;
