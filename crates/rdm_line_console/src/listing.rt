@@ -14,7 +14,7 @@ use std::alloc::Global;
 use std::io::Write;
 
 /// How many clashes are told at most. New devices all start at slot 1, and each two of them clash.
-const MOST_CLASHES: usize = 100;
+const MOST_CLASHES: usize = 20;
 
 /// As what a list is told.
 #[derive(Clone, Copy, PartialEq, Eq)]

@@ -1,8 +1,5 @@
 //! The status messages of a fixture are fetched.
 
-ghost use Rattle.std.specs.Prelude.{OnOk};
-ghost use Rattle.rdm_surveyor.specs.Getting.{GoesOn, GoesOnTrying, IsGet};
-
 use crate::SurveyFault;
 use crate::statuses::{Taken, Tally};
 use rdm_console::{Port, Uid, Wire};
@@ -47,18 +44,15 @@ pub(crate) fn fetch<P: Port>(
     uid: Uid,
     port: &mut P,
     reports: &mut Vec<Report>,
-) -> Result<Statuses, SurveyFault>
-    ensures got { OnOk result (GoesOn P.hears port.old port.new) }
-    ensures tried { GoesOnTrying P.hears P.fails port.old port.new }
-{
+) -> Result<Statuses, SurveyFault> {
     let mut tally = Tally::new(alloc);
-    let mut unheard = 0;
+    let mut unheard: u8 = 0;
     for number in 0..MOST_REQUESTS {
         let again = unheard > 0;
         // There is room for what comes before it is asked for.
         reports.reserve(1)?;
         let heard = port.exchange(&request(console, uid, number, again))?;
-        unheard = if heard.is_some() { 0 } else { unheard + 1 };
+        unheard = if heard.is_some() { 0 } else { unheard.saturating_add(1) };
         if unheard == TRIES || take(&mut tally, heard, uid, again, reports)? {
             return Ok(Statuses {
                 counts: tally.counts(),
@@ -94,9 +88,7 @@ fn take(
 }
 
 /// The request for the errors and warnings of a fixture, or for its last message again (table A-4).
-fn request(console: Uid, uid: Uid, number: u8, again: bool) -> Wire
-    ensures { IsGet result }
-{
+fn request(console: Uid, uid: Uid, number: u8, again: bool) -> Wire {
     let status_type = if again { GET_LAST_MESSAGE } else { WARNING };
     let frame = FrameView {
         dst: uid,

@@ -6,9 +6,6 @@ use rdm_frame::standard::{GET_COMMAND_RESPONSE, STATUS_MESSAGES};
 use rdm_survey::StatusCounts;
 use std::alloc::{AllocError, Global};
 
-/// How many slots an entry of a status message has (E1.20 section 10.3.2).
-const ENTRY_SLOTS: usize = 9;
-
 /// What a reply is for a survey.
 #[derive(Clone, Copy, Debug, PartialEq, Eq)]
 pub(crate) enum Taken {
@@ -105,13 +102,14 @@ fn counts_with(counts: Option<StatusCounts>, body: &[u8]) -> StatusCounts {
         warnings: 0,
     });
     let mut rest = body;
-    while rest.len() >= ENTRY_SLOTS {
-        match Severity::of(rest[2]) {
+    // An entry has nine slots: the sub-device, the status type, the status ID and two values (section 10.3.2).
+    while let [_, _, status_type, _, _, _, _, _, _, more @ ..] = rest {
+        match Severity::of(*status_type) {
             Some(Severity::Error) => counts.errors = counts.errors.saturating_add(1),
             Some(Severity::Warning) => counts.warnings = counts.warnings.saturating_add(1),
             _ => {}
         }
-        rest = &rest[ENTRY_SLOTS..];
+        rest = more;
     }
     counts
 }
