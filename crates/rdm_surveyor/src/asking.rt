@@ -80,7 +80,13 @@ pub(crate) fn ask_personality<P: Port>(
     let Some(number) = personality_of(device) else {
         return Ok(None);
     };
-    match ask(mailbox, port, 0, DMX_PERSONALITY_DESCRIPTION, Load::of(&[number])) {
+    match ask(
+        mailbox,
+        port,
+        0,
+        DMX_PERSONALITY_DESCRIPTION,
+        Load::of(&[number]),
+    ) {
         Ok(reply) => Ok(personality_in(number, &reply)),
         Err(fault) => Err(fault),
     }

@@ -52,7 +52,11 @@ pub(crate) fn fetch<P: Port>(
         // There is room for what comes before it is asked for.
         reports.reserve(1)?;
         let heard = port.exchange(&request(console, uid, number, again))?;
-        unheard = if heard.is_some() { 0 } else { unheard.saturating_add(1) };
+        unheard = if heard.is_some() {
+            0
+        } else {
+            unheard.saturating_add(1)
+        };
         if unheard == TRIES || take(&mut tally, heard, uid, again, reports)? {
             return Ok(Statuses {
                 counts: tally.counts(),

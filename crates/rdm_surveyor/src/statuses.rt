@@ -52,10 +52,12 @@ impl Tally {
         }
         let is_status = said.class == GET_COMMAND_RESPONSE && said.pid == STATUS_MESSAGES;
         if is_status {
-            self.counts = Some(self.counts.unwrap_or(StatusCounts {
-                errors: 0,
-                warnings: 0,
-            }));
+            self.counts = Some(
+                self.counts.unwrap_or(StatusCounts {
+                    errors: 0,
+                    warnings: 0,
+                }),
+            );
         }
         if (is_status && said.body.is_empty()) || says_the_same(&self.last, &said) {
             return Ok(if again { Taken::Repeat } else { Taken::Over });

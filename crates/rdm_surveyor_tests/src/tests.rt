@@ -6,7 +6,6 @@ use rdm_frame::{Body, Frame, Text, Uid, Wire, decode_view, encode};
 use rdm_survey::{Row, StatusCounts};
 use rdm_surveyor::{Report, SurveyFault, survey};
 use std::alloc::{AllocError, Global};
-
 use std::fmt::Write;
 use std::str;
 use std::test::Fail;
@@ -97,14 +96,7 @@ fn status(tn: u8, text: &str) -> Option<Wire> {
 }
 
 /// A reply with these data, in hexadecimal digits.
-fn reply(
-    tn: u8,
-    sub: u16,
-    response_type: u8,
-    class: u8,
-    pid: u16,
-    digits: &str,
-) -> Option<Wire> {
+fn reply(tn: u8, sub: u16, response_type: u8, class: u8, pid: u16, digits: &str) -> Option<Wire> {
     let digits = digits.as_bytes();
     if digits.len() > 510 {
         return None;
@@ -114,14 +106,7 @@ fn reply(
 }
 
 /// A reply.
-fn framed(
-    tn: u8,
-    sub: u16,
-    response_type: u8,
-    class: u8,
-    pid: u16,
-    data: &[u8],
-) -> Option<Wire> {
+fn framed(tn: u8, sub: u16, response_type: u8, class: u8, pid: u16, data: &[u8]) -> Option<Wire> {
     Some(encode(&Frame {
         dst: CONSOLE,
         src: FIXTURE,
@@ -196,7 +181,12 @@ const SURVEYS: &[(Values, bool, &str, &str)] = &[
     ),
     // The description is that of another personality.
     (
-        &[(0, 0x0060, 0, HEAD), (0, 0x00E1, 0, "0100084D6F6465"), (1, 0x0060, 0, CELL), (2, 0x0060, 1, "0005")],
+        &[
+            (0, 0x0060, 0, HEAD),
+            (0, 0x00E1, 0, "0100084D6F6465"),
+            (1, 0x0060, 0, CELL),
+            (2, 0x0060, 1, "0005"),
+        ],
         true,
         "0060 0081 0080 0082 00E1=2 00C0 0400 0030=3 0060/1 0060/2 ",
         "101+8 2/3 - - - - - - 1@201+1 ",
