@@ -1,1 +1,4 @@
+pub mod Ascii
 pub mod Ordering
+pub mod Texts
+pub mod Tokens

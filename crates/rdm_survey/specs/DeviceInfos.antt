@@ -17,13 +17,13 @@ address_in field = if field == 0xFFFF then None else Some field
 -- What 19 slots of parameter data tell; other data tell nothing.
 abbrev pub device_info_in : List ℕ → Option DeviceInfo
 device_info_in slots = if length slots == 19 then Some (record {
-    model_id = word_at slots 2;
-    category = word_at slots 4;
-    software_id = long_at slots 6;
-    footprint = word_at slots 10;
-    personality = slice_index slots 12;
-    personalities = slice_index slots 13;
-    address = address_in (word_at slots 14);
-    sub_devices = word_at slots 16;
-    sensors = slice_index slots 18;
-  }) else None
+  model_id = word_at slots 2;
+  category = word_at slots 4;
+  software_id = long_at slots 6;
+  footprint = word_at slots 10;
+  personality = slice_index slots 12;
+  personalities = slice_index slots 13;
+  address = address_in (word_at slots 14);
+  sub_devices = word_at slots 16;
+  sensors = slice_index slots 18;
+}) else None

@@ -5,17 +5,23 @@
 #![tactic(auto)]
 
 mod clashing;
+mod column_words;
 mod columns;
+mod csv_text;
 mod device_info;
-mod documents;
+mod json_text;
+mod member;
 mod order;
+mod partner;
 mod place;
 mod row;
+mod shown;
 
 pub use clashing::clashes;
 pub use columns::{put_heading, put_row};
+pub use csv_text::{KEYS, put_csv};
 pub use device_info::DeviceInfo;
-pub use documents::{put_csv, put_json};
+pub use json_text::put_json;
 pub use order::{Order, sort};
 pub use place::{Clash, Place};
 pub use row::{Row, StatusCounts, SubDevice};

@@ -1,0 +1,7 @@
+use Rattle.std.proofs.Common.{◌≡◌, ◌++◌, take}
+use Rattle.std.specs.List.{flat_map}
+use Rattle.rdm_survey.specs.Shown.{shown}
+use Rattle.rdm_survey.proofs.shown.put_shown.Given as goal
+
+abbrev pub invariant-loop-byte : goal.invariant-loop-byte
+invariant-loop-byte l = l.text.items ≡ l.fn.text.items ++ shown (take l.byte-index l.words)
