@@ -23,6 +23,8 @@ _felosumay() {
         line:--limit) :; return ;;
         line:--trace) mapfile -t COMPREPLY < <(compgen -f -- "$word"); return ;;
         line:--fixture) mapfile -t COMPREPLY < <(compgen -f -- "$word"); return ;;
+        line:--by) :; return ;;
+        line:--format) :; return ;;
         line:--sub) :; return ;;
         line:--uid) :; return ;;
     esac
@@ -60,16 +62,17 @@ _felosumay() {
             esac ;;
         line)
             case $word in
-                -*) mapfile -t COMPREPLY < <(compgen -W '--port --limit --trace --fixture -h --help -V --version --sub --uid --words' -- "$word") ;;
+                -*) mapfile -t COMPREPLY < <(compgen -W '--port --limit --trace --fixture -h --help -V --version --by --format --sub --uid --words' -- "$word") ;;
                 *)
                     case " ${COMP_WORDS[*]:2:COMP_CWORD-2} " in
                         *" find "*) : ;;
+                        *" list "*) : ;;
                         *" get "*) mapfile -t COMPREPLY < <(compgen -W "$(felosumay parameters 2>/dev/null | cut -d, -f1 | cut -d" " -f2)" -- "$word") ;;
                         *" set "*) mapfile -t COMPREPLY < <(compgen -W "$(felosumay parameters 2>/dev/null | cut -d, -f1 | cut -d" " -f2)" -- "$word") ;;
                         *" collect "*) : ;;
                         *" watch "*) : ;;
                         *" play "*) mapfile -t COMPREPLY < <(compgen -f -- "$word") ;;
-                        *) mapfile -t COMPREPLY < <(compgen -W 'find get set collect watch play' -- "$word") ;;
+                        *) mapfile -t COMPREPLY < <(compgen -W 'find list get set collect watch play' -- "$word") ;;
                     esac ;;
             esac ;;
     esac

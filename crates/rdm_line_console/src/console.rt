@@ -85,7 +85,7 @@ impl<'a, H: Host, P: Port, F: Write> Console<'a, H, P, F> {
     }
 
     /// Asks the device of a mailbox what it takes to say a reply in words.
-    fn learn(&mut self, mailbox: &mut Mailbox, reply: &Wire) -> Result<(), Fault<'a>> {
+    pub(crate) fn learn(&mut self, mailbox: &mut Mailbox, reply: &Wire) -> Result<(), Fault<'a>> {
         for _turn in 0..MOST_QUESTIONS {
             let missing = self
                 .port

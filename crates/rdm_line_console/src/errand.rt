@@ -2,6 +2,7 @@
 
 use super::console::Console;
 use super::entry::{Described, Entry, load_in, parameter_in};
+use super::listing::Listing;
 use super::playing::Play;
 use clap::ArgMatches;
 use rdm_bus::Fault as BusFault;
@@ -20,6 +21,8 @@ use std::io::Write;
 pub enum Errand<'a> {
     /// All devices are looked for.
     Find,
+    /// All devices are listed.
+    List(Listing),
     /// A command is sent.
     Ask(Command),
     /// A command is sent whose data the device describes first.
@@ -39,6 +42,7 @@ impl<'a> Errand<'a> {
         asked: &ArgMatches<'a>,
     ) -> Result<Errand<'a>, Fault<'a>> {
         match asked.subcommand() {
+            Some(("list", words)) => Ok(Errand::List(Listing::asked_for(words))),
             Some(("get", words)) => command(rt, Action::Get, words),
             Some(("set", words)) => command(rt, Action::Set, words),
             Some(("collect", words)) => Ok(Errand::Collect(device_in(words)?)),
@@ -58,6 +62,7 @@ impl<'a> Errand<'a> {
     ) -> Result<(), Fault<'a>> {
         match self {
             Errand::Find => console.find(),
+            Errand::List(listing) => console.list(*listing),
             Errand::Ask(command) => console.ask(command),
             Errand::Describe(described) => console.ask_described(described),
             Errand::Collect(uid) => console.collect(*uid),

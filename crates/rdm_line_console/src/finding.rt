@@ -89,7 +89,7 @@ impl<'a, H: Host, P: Port, F: Write> Console<'a, H, P, F> {
     }
 
     /// Shows this in place of what was shown before, where somebody sees it.
-    fn show(&self, words: &str) {
+    pub(crate) fn show(&self, words: &str) {
         if self.teller.is_seen() {
             // Nothing is lost if it can't be shown.
             let rt = self.teller.rt();

@@ -2,6 +2,7 @@
 #![tactic(auto)]
 
 mod asking;
+mod clashing;
 mod collecting;
 mod console;
 mod entry;
@@ -9,6 +10,7 @@ mod errand;
 mod finding;
 mod knowledge;
 mod line;
+mod listing;
 mod log;
 mod playing;
 mod recorder;

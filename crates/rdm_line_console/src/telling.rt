@@ -65,6 +65,14 @@ impl<H: Speaker> Teller<H> {
         self.is_seen
     }
 
+    /// The same, that tells on standard error.
+    pub(crate) fn on_errors(self) -> Teller<H> {
+        Teller {
+            place: Place::Errors,
+            ..self
+        }
+    }
+
     /// Tells this.
     pub(crate) fn tell<'a>(&self, text: &[u8]) -> Result<(), Fault<'a>> {
         match self.place {

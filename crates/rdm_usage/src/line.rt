@@ -1,7 +1,10 @@
 //! The command line of `felosumay line`.
 
 use crate::argument::{Argument, Form, arguments, push_subcommands};
-use crate::usage::{DATA, FIXTURE, IN_WORDS, LIMIT, PARAMETER, PORT, SCRIPT, SUB, TRACE, UID};
+use crate::usage::{
+    BY, BY_ADDRESS, BY_LABEL, BY_MODEL, BY_UID, CSV, DATA, FIXTURE, FORMAT, IN_WORDS, JSON, LIMIT,
+    PARAMETER, PORT, SCRIPT, SUB, TABLE, TRACE, UID,
+};
 use clap::Command;
 use std::alloc::{AllocError, Global};
 
@@ -54,6 +57,22 @@ const WHERE: Argument = Argument {
     help: "The sub-device, as in a script; the root if omitted",
 };
 
+/// What `felosumay line list` takes.
+const OF_LIST: &[Argument] = &[
+    Argument {
+        id: BY,
+        form: Form::OneOf(&[BY_UID, BY_ADDRESS, BY_MODEL, BY_LABEL]),
+        value: "KEY",
+        help: "By what the devices are ordered; uid if omitted\n",
+    },
+    Argument {
+        id: FORMAT,
+        form: Form::OneOf(&[TABLE, CSV, JSON]),
+        value: "FORMAT",
+        help: "As what they are printed; table if omitted\n",
+    },
+];
+
 /// What `felosumay line get` takes.
 const OF_GET: &[Argument] = &[
     DEVICE,
@@ -95,6 +114,11 @@ const OF_PLAY: &[Argument] = &[
 /// What `felosumay line` does: the name of each errand, what it is, and what it takes.
 const ERRANDS: &[(&str, &str, &[Argument])] = &[
     ("find", "Find all devices", &[]),
+    (
+        "list",
+        "List all devices, and where their slots clash",
+        OF_LIST,
+    ),
     ("get", "Read a parameter of a device", OF_GET),
     (
         "set",

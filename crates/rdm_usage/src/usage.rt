@@ -45,6 +45,24 @@ pub const SUB: &str = "sub";
 pub const DATA: &str = "data";
 /// The option for how fast time passes.
 pub const SPEED: &str = "speed";
+/// The option for the order of a list.
+pub const BY: &str = "by";
+/// By what a list can be ordered: the UID, unless something else is asked for.
+pub const BY_UID: &str = "uid";
+/// By the start address.
+pub const BY_ADDRESS: &str = "address";
+/// By the model.
+pub const BY_MODEL: &str = "model";
+/// By the label.
+pub const BY_LABEL: &str = "label";
+/// The option for the form of a list.
+pub const FORMAT: &str = "format";
+/// A list as a table, unless something else is asked for.
+pub const TABLE: &str = "table";
+/// A list as CSV.
+pub const CSV: &str = "csv";
+/// A list as JSON.
+pub const JSON: &str = "json";
 
 /// How many fixtures there are on a line at most.
 pub const MOST_FIXTURES: u16 = 512;
