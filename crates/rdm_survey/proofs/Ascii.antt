@@ -1,5 +1,5 @@
 -- What is written is ASCII, and so it is text.
-use Rattle.std.proofs.Common.{◌≡◌, ℕ, ◌+◌, ◌/◌, ◌%◌, ◌<◌, ◌==◌, Bool, true, false, cond, List, [], ◌∷◌, ◌++◌, refl, arith}
+use Rattle.std.proofs.Common.{◌≡◌, ℕ, ◌/◌, ◌%◌, ◌<◌, ◌==◌, Bool, true, false, cond, List, [], ◌∷◌, ◌++◌, refl, arith}
 use Rattle.std.specs.Str.{IsAscii, IsUtf8}
 use Rattle.std.proofs.lemmas.Str.{IsAscii-append, IsUtf8-from_ascii}
 use Rattle.std.proofs.lemmas.Str.Ascii.{IsAscii-nil, IsAscii-cons}
@@ -18,18 +18,24 @@ ascii_is_text bytes h = IsUtf8-from_ascii bytes h
 digit_small : (n : ℕ) → n < 16 → digit n < 128
 digit_small n h = grind (arith, nat_tests)
 
-byte_ascii : (b : ℕ) (rest : List ℕ) → b < 256 → IsAscii rest → IsAscii (digit (b / 16) ∷ digit (b % 16) ∷ rest)
+-- the two digits of a byte
+abbrev pair : ℕ → List ℕ → List ℕ
+pair b rest = digit (b / 16) ∷ digit (b % 16) ∷ rest
+
+byte_ascii : (b : ℕ) (rest : List ℕ) → b < 256 → IsAscii rest → IsAscii (pair b rest)
 byte_ascii b rest h r =
     IsAscii-cons (digit (b / 16)) (digit (b % 16) ∷ rest) (digit_small (b / 16) (omega arith))
     (IsAscii-cons (digit (b % 16)) rest (digit_small (b % 16) (omega arith)) r)
 
 short_ascii : (n : ℕ) (rest : List ℕ) → IsAscii rest → IsAscii (digits (to_be_bytes w16 n) ++ rest)
-short_ascii n rest r = byte_ascii (n / 256 % 256) _ (omega arith) (byte_ascii (n % 256) rest (omega arith) r)
+short_ascii n rest r = byte_ascii (n / 256 % 256) (pair (n % 256) rest) (omega arith) (byte_ascii (n % 256) rest (omega arith) r)
 
 long_ascii : (n : ℕ) → IsAscii (digits (to_be_bytes w32 n))
 long_ascii n =
-    byte_ascii (n / 16777216 % 256) _ (omega arith) (byte_ascii (n / 65536 % 256) _ (omega arith)
-    (byte_ascii (n / 256 % 256) _ (omega arith) (byte_ascii (n % 256) [] (omega arith) IsAscii-nil)))
+    byte_ascii (n / 16777216 % 256) (pair (n / 65536 % 256) (pair (n / 256 % 256) (pair (n % 256) []))) (omega arith)
+    (byte_ascii (n / 65536 % 256) (pair (n / 256 % 256) (pair (n % 256) [])) (omega arith)
+    (byte_ascii (n / 256 % 256) (pair (n % 256) []) (omega arith)
+    (byte_ascii (n % 256) [] (omega arith) IsAscii-nil)))
 
 marked : (words : List ℕ) → IsAscii words → IsAscii (0x30 ∷ 0x78 ∷ words)
 marked words h = IsAscii-cons 0x30 (0x78 ∷ words) (omega arith) (IsAscii-cons 0x78 words (omega arith) h)

@@ -1,5 +1,6 @@
 -- How texts are put together, over plain variables.
-use Rattle.std.proofs.Common.{◌≡◌, ℕ, ◌+◌, ◌≤◌, ◌==◌, Bool, true, false, cond, List, [], ◌∷◌, ◌++◌, length, map, codes, refl, ap, append_assoc, ◌∙◌, arith}
+use Rattle.std.proofs.Common.{◌≡◌, ℕ, ◌≤◌, ◌==◌, Bool, true, false, cond, List, [], ◌∷◌, ◌++◌, length, map, codes, Result, Ok, Err, OnOk, refl, ap, append_assoc, ◌∙◌, arith}
+use Rattle.std.specs.Prelude.{is_ok}
 use Rattle.std.specs.List.{flat_map}
 use Rattle.csv.specs.Writing.{default_writer, escaped, field_text, fields_text, is_blank, quoted, row_text}
 use Rattle.rdm_survey.specs.declared.member.Member.{Member}
@@ -35,7 +36,7 @@ two_fields : (f g : List ℕ) (fs : List (List ℕ))
 unfolding is_blank
 two_fields f g fs = refl
 
-pub line_of : (old : List ℕ) (m : Member) (ms : List Member) → 1 ≤ length ms
+line_of : (old : List ℕ) (m : Member) (ms : List Member) → 1 ≤ length ms
     → ((old ++ field_text default_writer (cell_field m)) ++ flat_map comma_field ms) ++ 0x0A ∷ [] ≡ old ++ row_text default_writer (map cell_field (m ∷ ms))
 line_of old m [] h = absurd (omega arith)
 line_of old m (n ∷ ms) h =
@@ -44,13 +45,31 @@ line_of old m (n ∷ ms) h =
     ∙ ap (λ (z : List ℕ). old ++ (field_text default_writer (cell_field m) ++ (z ++ 0x0A ∷ []))) (more_fields (n ∷ ms))
     ∙ ap (λ (z : List ℕ). old ++ z) (rw (two_fields (cell_field m) (cell_field n) (map cell_field ms), append_assoc (field_text default_writer (cell_field m)) (fields_text default_writer (cell_field n ∷ map cell_field ms)) (0x0A ∷ [])) refl)
 
+-- a line is put, part by part
+pub line_put : {T E : Type 0} (r : Result T E) (m : Member) (ms : List Member) (old first more new : List ℕ) → 1 ≤ length ms
+    → first ≡ old ++ field_text default_writer (cell_field m) → more ≡ first ++ flat_map comma_field ms → new ≡ cond (is_ok r) (more ++ 0x0A ∷ []) more
+    → OnOk r (new ≡ old ++ row_text default_writer (map cell_field (m ∷ ms)))
+line_put (Err e) m ms old first more new h p q s = tt
+line_put (Ok t) m ms old first more new h p q s =
+    s ∙ ap (λ (w : List ℕ). w ++ 0x0A ∷ []) (q ∙ ap (λ (w : List ℕ). w ++ flat_map comma_field ms) p) ∙ line_of old m ms h
+
 pub cell_fields : (ms : List Member) → map cell_field ms ≡ fields (map said ms)
 unfolding cell_field
 cell_fields [] = refl
 cell_fields (m ∷ ms) = ap (λ (z : List (List ℕ)). cell_field m ∷ z) (cell_fields ms)
 
-pub keys_joined : (old : List ℕ)
-    → (old ++ codes "uid,manufacturer,model,model_id,category,label,address,last_address,footprint,personality,personalities,")
-    ++ codes "personality_name,software,software_id,sub_devices,sensors,hours,errors,warnings,clashes\n" ≡ old ++ keys_text
+abbrev keys_front : List ℕ
+keys_front = codes "uid,manufacturer,model,model_id,category,label,address,last_address,footprint,personality,personalities,"
+
+abbrev keys_back : List ℕ
+keys_back = codes "personality_name,software,software_id,sub_devices,sensors,hours,errors,warnings,clashes\n"
+
+keys_joined : (old : List ℕ) → (old ++ keys_front) ++ keys_back ≡ old ++ keys_text
 unfolding keys_text keys fields_text is_blank escaped
-keys_joined old = append_assoc old (codes "uid,manufacturer,model,model_id,category,label,address,last_address,footprint,personality,personalities,") (codes "personality_name,software,software_id,sub_devices,sensors,hours,errors,warnings,clashes\n")
+keys_joined old = append_assoc old keys_front keys_back
+
+-- the line of the keys is put, in two parts
+pub keys_put : {T E : Type 0} (r : Result T E) (old mid new : List ℕ) → mid ≡ old ++ keys_front → new ≡ cond (is_ok r) (mid ++ keys_back) mid
+    → OnOk r (new ≡ old ++ keys_text)
+keys_put (Err e) old mid new p q = tt
+keys_put (Ok t) old mid new p q = q ∙ ap (λ (w : List ℕ). w ++ keys_back) p ∙ keys_joined old

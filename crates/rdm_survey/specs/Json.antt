@@ -1,6 +1,6 @@
 -- A survey as JSON. RFC 8259.
 use Rattle.std.specs.Prelude.{ℕ, List, [], ◌∷◌, map, decimal}
-use Rattle.json.specs.Json.{Json, null, number as a_number, string, array, object, Items, Members, no_members, member}
+use Rattle.json.specs.Json.{Json, null, number as a_number, string, array, object, Members, no_members, member}
 use Rattle.json.specs.Print.{print}
 use Rattle.json.specs.Token.{Token, key}
 use Rattle.json.specs.Tree.{json_tokens}

@@ -1,6 +1,6 @@
 //! A survey as CSV.
 
-ghost use Rattle.std.specs.Prelude.{◌≡◌, ◌≤◌, ◌++◌, length, map, OnOk};
+ghost use Rattle.std.specs.Prelude.{◌≡◌, ◌≤◌, ◌∷◌, ◌++◌, length, map, OnOk};
 ghost use Rattle.std.specs.List.{flat_map, list_any};
 ghost use Rattle.csv.specs.Writing.{default_writer, field_text, needs_byte, quoted, row_text};
 ghost use Rattle.rdm_survey.specs.Csv.{cell_field, comma_field, csv_text, doubled, guarded, is_marked, keys_text, record_text};
@@ -87,7 +87,6 @@ fn put_record(
 }
 
 /// The line of the keys.
-#[tactic(auto, using(crate::proofs::Texts::keys_joined))]
 fn put_keys(text: &mut Vec<u8>) -> Result<(), AllocError>
     ensures { OnOk result (text.new.items ≡ text.old.items ++ keys_text) }
 {
@@ -100,7 +99,6 @@ fn put_keys(text: &mut Vec<u8>) -> Result<(), AllocError>
 }
 
 /// Members, of which there are two or more, as a line.
-#[tactic(auto, using(crate::proofs::Texts::line_of))]
 fn put_members(alloc: Global, members: &[Member<'_>], text: &mut Vec<u8>) -> Result<(), AllocError>
     requires { 2 ≤ length members.now }
     ensures { OnOk result (text.new.items ≡ text.old.items ++ row_text default_writer (map cell_field members.now)) }
@@ -108,6 +106,19 @@ fn put_members(alloc: Global, members: &[Member<'_>], text: &mut Vec<u8>) -> Res
     let [first, more @ ..] = members else {
         return Ok(());
     };
+    put_line(alloc, first, more, text)
+}
+
+/// A member and those behind it, as a line.
+fn put_line(
+    alloc: Global,
+    first: &Member<'_>,
+    more: &[Member<'_>],
+    text: &mut Vec<u8>,
+) -> Result<(), AllocError>
+    requires { 1 ≤ length more.now }
+    ensures { OnOk result (text.new.items ≡ text.old.items ++ row_text default_writer (map cell_field (first.now ∷ more.now))) }
+{
     put_field(alloc, first, text)?;
     put_more_fields(alloc, more, text)?;
     text.extend_from_slice(b"\n")

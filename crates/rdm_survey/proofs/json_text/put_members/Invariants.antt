@@ -1,4 +1,4 @@
-use Rattle.std.proofs.Common.{◌≡◌, ◌++◌, map, take}
+use Rattle.std.proofs.Common.{◌≡◌, ◌++◌, take}
 use Rattle.std.specs.List.{flat_map}
 use Rattle.rdm_survey.specs.Json.{cell_tokens}
 use Rattle.rdm_survey.proofs.json_text.put_members.Given as goal

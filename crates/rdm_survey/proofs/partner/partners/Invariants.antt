@@ -1,4 +1,4 @@
-use Rattle.std.proofs.Common.{◌≡◌, ◌++◌, take}
+use Rattle.std.proofs.Common.{◌≡◌, take}
 use Rattle.std.specs.List.{flat_map}
 use Rattle.rdm_survey.specs.Members.{other_of}
 use Rattle.rdm_survey.proofs.partner.partners.Given as goal

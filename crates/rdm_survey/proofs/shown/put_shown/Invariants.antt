@@ -1,5 +1,4 @@
 use Rattle.std.proofs.Common.{◌≡◌, ◌++◌, take}
-use Rattle.std.specs.List.{flat_map}
 use Rattle.rdm_survey.specs.Shown.{shown}
 use Rattle.rdm_survey.proofs.shown.put_shown.Given as goal
 
