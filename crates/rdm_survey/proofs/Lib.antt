@@ -1,4 +1,6 @@
 pub mod Ascii
 pub mod Ordering
+pub mod ReadBack
 pub mod Texts
 pub mod Tokens
+pub mod Unshowing

@@ -1,6 +1,7 @@
 //! A survey as a table on a terminal.
 
 ghost use Rattle.std.specs.Prelude.{◌≡◌, ◌++◌, replicate, OnOk};
+ghost use Rattle.std.specs.List.{flat_map};
 ghost use Rattle.rdm_survey.specs.Table.{fitted, heading, heading_line, heading_place, placed, row_line, row_place, width};
 
 use crate::Row;
@@ -44,10 +45,18 @@ const COLUMNS: [Column; 12] = [
 pub fn put_heading(text: &mut Vec<u8>) -> Result<(), AllocError>
     ensures { OnOk result (text.new.items ≡ text.old.items ++ heading_line) }
 {
-    for column in COLUMNS {
-        put_heading_of(text, column)?;
-    }
+    put_headings(&COLUMNS, text)?;
     text.extend_from_slice(b"\n")
+}
+
+/// What these columns are called.
+fn put_headings(columns: &[Column], text: &mut Vec<u8>) -> Result<(), AllocError>
+    ensures { OnOk result (text.new.items ≡ text.old.items ++ flat_map heading_place columns.now) }
+{
+    for column in columns {
+        put_heading_of(text, *column)?;
+    }
+    Ok(())
 }
 
 /// Puts a row at the end of a text: a line, whose columns stand under those of the heading. What the fixture didn't tell is a hyphen, and
@@ -55,10 +64,23 @@ pub fn put_heading(text: &mut Vec<u8>) -> Result<(), AllocError>
 pub fn put_row(alloc: Global, row: &Row, text: &mut Vec<u8>) -> Result<(), AllocError>
     ensures { OnOk result (text.new.items ≡ text.old.items ++ row_line row.now) }
 {
-    for column in COLUMNS {
-        put_column(alloc, column, row, text)?;
-    }
+    put_columns(alloc, &COLUMNS, row, text)?;
     text.extend_from_slice(b"\n")
+}
+
+/// What stands in these columns.
+fn put_columns(
+    alloc: Global,
+    columns: &[Column],
+    row: &Row,
+    text: &mut Vec<u8>,
+) -> Result<(), AllocError>
+    ensures { OnOk result (text.new.items ≡ text.old.items ++ flat_map (row_place row.now) columns.now) }
+{
+    for column in columns {
+        put_column(alloc, *column, row, text)?;
+    }
+    Ok(())
 }
 
 /// What a column is called, in its width.

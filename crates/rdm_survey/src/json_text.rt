@@ -1,11 +1,12 @@
 //! A survey as JSON.
 
-ghost use Rattle.std.specs.Prelude.{◌≡◌, [], ◌∷◌, ◌++◌, map, OnOk};
+ghost use Rattle.std.specs.Prelude.{◌≡◌, [], ◌∷◌, ◌++◌, map, Some, IfOk, OnOk};
 ghost use Rattle.std.specs.Str.{IsAscii};
 ghost use Rattle.std.specs.List.{flat_map};
+ghost use Rattle.json.specs.Json.{document};
 ghost use Rattle.json.specs.Token.{string};
 ghost use Rattle.json.specs.Tree.{json_tokens};
-ghost use Rattle.rdm_survey.specs.Json.{cell_tokens, json_of, json_text, other_token, row_tokens};
+ghost use Rattle.rdm_survey.specs.Json.{cell_tokens, json_of, json_text, other_token, row_tokens, survey_json};
 ghost use Rattle.rdm_survey.specs.Csv.{plain};
 ghost use Rattle.rdm_survey.specs.Members.{partner_word, place_word, told, words};
 
@@ -21,16 +22,28 @@ use std::str;
 
 /// Puts the rows at the end of a text as JSON (RFC 8259): an array with an object for each row, with no spaces. What a fixture didn't tell
 /// is null, and `clashes` is an array.
-#[tactic(auto, using(crate::proofs::Tokens::survey_tokens))]
+///
+/// A reader of JSON finds in it exactly the survey: that is the clause `read_back`.
 pub fn put_json(alloc: Global, rows: &[Row], text: &mut Vec<u8>) -> Result<(), AllocError>
-    ensures { OnOk result (text.new.items ≡ text.old.items ++ json_text rows.now) }
+    ensures text { OnOk result (text.new.items ≡ text.old.items ++ json_text rows.now) }
+    ensures read_back { OnOk result (document (json_text rows.now) ≡ Some (survey_json rows.now)) }
+{
+    let document = document_of(alloc, rows)?;
+    text.extend_from_slice(document.as_slice())
+}
+
+/// The text of the rows.
+#[tactic(auto, using(crate::proofs::Tokens::survey_tokens, crate::proofs::Tokens::document_of))]
+fn document_of(alloc: Global, rows: &[Row]) -> Result<Vec<u8>, AllocError>
+    ensures text { IfOk result (λ list. list.items ≡ json_text rows.now) }
+    ensures read_back { IfOk result (λ list. document (json_text rows.now) ≡ Some (survey_json rows.now)) }
 {
     let clashes = clashes(alloc, rows)?;
     let mut writer = Writer::new(Vec::new(alloc));
     writer.begin_array()?;
     put_rows(alloc, rows, clashes.as_slice(), &mut writer)?;
     writer.end_array()?;
-    text.extend_from_slice(writer.into_inner().as_slice())
+    Ok(writer.into_inner())
 }
 
 /// An object for each row.
@@ -138,7 +151,6 @@ fn put_other(alloc: Global, other: Partner, writer: &mut Writer) -> Result<(), A
     }
 }
 
-#[tactic(auto, using(crate::proofs::Ascii::place_ascii))]
 fn put_place_word(alloc: Global, uid: Uid, sub: u16, writer: &mut Writer) -> Result<(), AllocError>
     ensures tokens { OnOk result (writer.new.tokens ≡ writer.old.tokens ++ string (place_word uid sub) ∷ []) }
     ensures before { writer.new.before ≡ writer.old.before }

@@ -10,6 +10,7 @@ mod columns;
 mod csv_text;
 mod device_info;
 mod json_text;
+mod laws;
 mod member;
 mod order;
 mod partner;
@@ -22,6 +23,10 @@ pub use columns::{put_heading, put_row};
 pub use csv_text::{KEYS, put_csv};
 pub use device_info::DeviceInfo;
 pub use json_text::put_json;
+pub use laws::{
+    csv_is_read_back, device_infos_are_equal_by_value, guarded_word_is_read_back,
+    members_have_the_keys, places_meet_in_a_slot, shown_text_is_read_back,
+};
 pub use order::{Order, sort};
 pub use place::{Clash, Place};
 pub use row::{Row, StatusCounts, SubDevice};
