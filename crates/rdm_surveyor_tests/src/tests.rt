@@ -22,8 +22,8 @@ const FIXTURE: Uid = Uid {
 
 const STATUS_MESSAGES: u16 = 0x0030;
 
-/// A fixture: what it answers to each parameter of the root and of its sub-devices, as the number of the device, the PID, the response type
-/// and the data; it rejects all others. And what it answers to STATUS_MESSAGES, one request after another: a response type, a class, a
+/// A fixture: what it answers to each parameter of the root and of its sub-devices, as the number of the device, the PID, the response
+/// type and the data; it rejects all others. And what it answers to STATUS_MESSAGES, one request after another: a response type, a class, a
 /// PID and data, or `-` for nothing. At the end of these it is silent.
 #[derive(Drop)]
 struct Fixture {
