@@ -193,8 +193,8 @@ const SURVEYS: &[(Values, bool, &str, &str)] = &[
     ),
 ];
 
-/// What a fixture answers to STATUS_MESSAGES; how it is asked, by 3 for its errors and warnings, and by 1 for the last message; what of that
-/// is handed on, with `again` if it was asked for again; and how many errors and warnings are counted.
+/// What a fixture answers to STATUS_MESSAGES; how it is asked, by 3 for its errors and warnings, and by 1 for the last message; what of
+/// that is handed on, with `again` if it was asked for again; and how many errors and warnings are counted.
 const STATUSES: &[(&str, &str, &str, &str)] = &[
     // None; an error, a warning, an advisory, and an error that is over; and two messages.
     ("00210030", "3 ", "", "0/0"),
