@@ -22,8 +22,8 @@ const FIXTURE: Uid = Uid {
 
 const STATUS_MESSAGES: u16 = 0x0030;
 
-/// A fixture: what it answers to each parameter of the root and of its sub-devices, as the number of the device, the PID, the response type
-/// and the data; it rejects all others. And what it answers to STATUS_MESSAGES, one request after another: a response type, a class, a
+/// A fixture: what it answers to each parameter of the root and of its sub-devices, as the number of the device, the PID, the response
+/// type and the data; it rejects all others. And what it answers to STATUS_MESSAGES, one request after another: a response type, a class, a
 /// PID and data, or `-` for nothing. At the end of these it is silent.
 #[derive(Drop)]
 struct Fixture {
@@ -193,8 +193,8 @@ const SURVEYS: &[(Values, bool, &str, &str)] = &[
     ),
 ];
 
-/// What a fixture answers to STATUS_MESSAGES; how it is asked, by 3 for its errors and warnings, and by 1 for the last message; what of that
-/// is handed on, with `again` if it was asked for again; and how many errors and warnings are counted.
+/// What a fixture answers to STATUS_MESSAGES; how it is asked, by 3 for its errors and warnings, and by 1 for the last message; what of
+/// that is handed on, with `again` if it was asked for again; and how many errors and warnings are counted.
 const STATUSES: &[(&str, &str, &str, &str)] = &[
     // None; an error, a warning, an advisory, and an error that is over; and two messages.
     ("00210030", "3 ", "", "0/0"),
