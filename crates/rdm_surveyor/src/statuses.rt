@@ -6,6 +6,9 @@ use rdm_frame::standard::{GET_COMMAND_RESPONSE, STATUS_MESSAGES};
 use rdm_survey::StatusCounts;
 use std::alloc::{AllocError, Global};
 
+/// How many slots an entry of a status message has (E1.20 section 10.3.2).
+const ENTRY_SLOTS: usize = 9;
+
 /// What a reply is for a survey.
 #[derive(Clone, Copy, Debug, PartialEq, Eq)]
 pub(crate) enum Taken {
@@ -97,21 +100,35 @@ fn says_the_same(last: &Option<Wire>, said: &Reply<'_>) -> bool {
     }
 }
 
-/// These counts, and the errors and warnings of a status message that stand: those of the cleared types are over (table A-4).
+/// These counts, and the errors and warnings of a status message that stand.
 fn counts_with(counts: Option<StatusCounts>, body: &[u8]) -> StatusCounts {
     let mut counts = counts.unwrap_or(StatusCounts {
         errors: 0,
         warnings: 0,
     });
-    let mut rest = body;
-    // An entry has nine slots: the sub-device, the status type, the status ID and two values (section 10.3.2).
-    while let [_, _, status_type, _, _, _, _, _, _, more @ ..] = rest {
-        match Severity::of(*status_type) {
-            Some(Severity::Error) => counts.errors = counts.errors.saturating_add(1),
-            Some(Severity::Warning) => counts.warnings = counts.warnings.saturating_add(1),
-            _ => {}
-        }
-        rest = more;
+    for entry in body.chunks_exact(ENTRY_SLOTS) {
+        counts = counts_and(counts, entry);
     }
     counts
+}
+
+/// These counts, and an entry, if it is an error or a warning: those of the cleared types are over (table A-4).
+fn counts_and(counts: StatusCounts, entry: &[u8]) -> StatusCounts {
+    let StatusCounts { errors, warnings } = counts;
+    // The sub-device, the status type, the status ID and two values.
+    let severity = match entry {
+        [_, _, status_type, ..] => Severity::of(*status_type),
+        _ => None,
+    };
+    match severity {
+        Some(Severity::Error) => StatusCounts {
+            errors: errors.saturating_add(1),
+            warnings,
+        },
+        Some(Severity::Warning) => StatusCounts {
+            errors,
+            warnings: warnings.saturating_add(1),
+        },
+        _ => counts,
+    }
 }
