@@ -153,7 +153,9 @@ fn slots_that_meet_clash(rt: HostRuntime) -> Result<(), Fail> {
             footprint,
         })?;
     }
-    rows[0].sub_devices = subs;
+    if let [first, ..] = rows.as_mut_slice() {
+        first.sub_devices = subs;
+    }
     let list = clashes(rt.alloc(), rows.as_slice())?;
     assert_eq!(rt; counts(list.as_slice()), (1, 2));
     Ok(())
