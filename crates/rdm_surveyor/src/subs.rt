@@ -1,5 +1,8 @@
 //! The sub-devices of a fixture.
 
+ghost use Rattle.std.specs.Prelude.{OnOk};
+ghost use Rattle.rdm_surveyor.specs.Getting.{GoesOn, GoesOnTrying};
+
 use crate::SurveyFault;
 use crate::asking::{DEVICE_INFO, ask, data_in};
 use rdm_collector::{Load, read_reply};
@@ -17,7 +20,10 @@ pub(crate) fn ask_subs<P: Port>(
     port: &mut P,
     count: u16,
     told: &mut Vec<SubDevice>,
-) -> Result<(), SurveyFault> {
+) -> Result<(), SurveyFault>
+    ensures got { OnOk result (GoesOn P.hears port.old port.new) }
+    ensures tried { GoesOnTrying P.hears P.fails port.old port.new }
+{
     let mut left = count;
     for number in 1..=MOST_SUB_DEVICES {
         if left == 0 {
@@ -38,7 +44,10 @@ fn ask_sub<P: Port>(
     port: &mut P,
     number: u16,
     told: &mut Vec<SubDevice>,
-) -> Result<bool, SurveyFault> {
+) -> Result<bool, SurveyFault>
+    ensures got { OnOk result (GoesOn P.hears port.old port.new) }
+    ensures tried { GoesOnTrying P.hears P.fails port.old port.new }
+{
     match ask(mailbox, port, number, DEVICE_INFO, Load::new()) {
         Ok(reply) => put_sub(number, &reply, told),
         Err(fault) => Err(fault),
