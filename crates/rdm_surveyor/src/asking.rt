@@ -1,5 +1,8 @@
 //! A parameter of a fixture is read.
 
+ghost use Rattle.std.specs.Prelude.{OnOk};
+ghost use Rattle.rdm_surveyor.specs.Getting.{GoesOn, GoesOnTrying};
+
 use crate::SurveyFault;
 use rdm_collector::{Load, read_reply};
 use rdm_console::{Action, Command, Mailbox, Port, Response, Wire, ask_through};
@@ -34,7 +37,10 @@ pub(crate) fn ask<P: Port>(
     sub: u16,
     pid: u16,
     load: Load,
-) -> Result<Option<Wire>, SurveyFault> {
+) -> Result<Option<Wire>, SurveyFault>
+    ensures got { OnOk result (GoesOn P.hears port.old port.new) }
+    ensures tried { GoesOnTrying P.hears P.fails port.old port.new }
+{
     let command = Command {
         dst: mailbox.uid(),
         action: Action::Get,
@@ -53,7 +59,10 @@ pub(crate) fn ask_text<P: Port>(
     mailbox: &mut Mailbox,
     port: &mut P,
     pid: u16,
-) -> Result<Option<Text>, SurveyFault> {
+) -> Result<Option<Text>, SurveyFault>
+    ensures got { OnOk result (GoesOn P.hears port.old port.new) }
+    ensures tried { GoesOnTrying P.hears P.fails port.old port.new }
+{
     match ask(mailbox, port, 0, pid, Load::new()) {
         Ok(reply) => Ok(text_in(&reply)),
         Err(fault) => Err(fault),
@@ -64,7 +73,10 @@ pub(crate) fn ask_text<P: Port>(
 pub(crate) fn ask_hours<P: Port>(
     mailbox: &mut Mailbox,
     port: &mut P,
-) -> Result<Option<u32>, SurveyFault> {
+) -> Result<Option<u32>, SurveyFault>
+    ensures got { OnOk result (GoesOn P.hears port.old port.new) }
+    ensures tried { GoesOnTrying P.hears P.fails port.old port.new }
+{
     match ask(mailbox, port, 0, DEVICE_HOURS, Load::new()) {
         Ok(reply) => Ok(hours_in(&reply)),
         Err(fault) => Err(fault),
@@ -76,7 +88,10 @@ pub(crate) fn ask_personality<P: Port>(
     mailbox: &mut Mailbox,
     port: &mut P,
     device: &Option<DeviceInfo>,
-) -> Result<Option<Text>, SurveyFault> {
+) -> Result<Option<Text>, SurveyFault>
+    ensures got { OnOk result (GoesOn P.hears port.old port.new) }
+    ensures tried { GoesOnTrying P.hears P.fails port.old port.new }
+{
     let Some(number) = personality_of(device) else {
         return Ok(None);
     };

@@ -1,5 +1,8 @@
 //! The status messages of a fixture are fetched.
 
+ghost use Rattle.std.specs.Prelude.{OnOk};
+ghost use Rattle.rdm_surveyor.specs.Getting.{GoesOn, GoesOnTrying, IsGet};
+
 use crate::SurveyFault;
 use crate::statuses::{Taken, Tally};
 use rdm_console::{Port, Uid, Wire};
@@ -44,7 +47,10 @@ pub(crate) fn fetch<P: Port>(
     uid: Uid,
     port: &mut P,
     reports: &mut Vec<Report>,
-) -> Result<Statuses, SurveyFault> {
+) -> Result<Statuses, SurveyFault>
+    ensures got { OnOk result (GoesOn P.hears port.old port.new) }
+    ensures tried { GoesOnTrying P.hears P.fails port.old port.new }
+{
     let mut tally = Tally::new(alloc);
     let mut unheard: u8 = 0;
     for number in 0..MOST_REQUESTS {
@@ -92,7 +98,9 @@ fn take(
 }
 
 /// The request for the errors and warnings of a fixture, or for its last message again (table A-4).
-fn request(console: Uid, uid: Uid, number: u8, again: bool) -> Wire {
+fn request(console: Uid, uid: Uid, number: u8, again: bool) -> Wire
+    ensures { IsGet result }
+{
     let status_type = if again { GET_LAST_MESSAGE } else { WARNING };
     let frame = FrameView {
         dst: uid,

@@ -1,5 +1,8 @@
 //! The sub-devices of a fixture.
 
+ghost use Rattle.std.specs.Prelude.{OnOk};
+ghost use Rattle.rdm_surveyor.specs.Getting.{GoesOn, GoesOnTrying};
+
 use crate::SurveyFault;
 use crate::asking::{DEVICE_INFO, ask, data_in};
 use rdm_collector::{Load, read_reply};
@@ -17,7 +20,10 @@ pub(crate) fn ask_subs<P: Port>(
     port: &mut P,
     count: u16,
     told: &mut Vec<SubDevice>,
-) -> Result<(), SurveyFault> {
+) -> Result<(), SurveyFault>
+    ensures got { OnOk result (GoesOn P.hears port.old port.new) }
+    ensures tried { GoesOnTrying P.hears P.fails port.old port.new }
+{
     let mut left = count;
     for number in 1..=MOST_SUB_DEVICES {
         if left == 0 {
@@ -31,14 +37,17 @@ pub(crate) fn ask_subs<P: Port>(
     Ok(())
 }
 
-/// Asks a sub-device for its DEVICE_INFO, and puts what it tells at the end of a list. Gives whether there is one with this number, as
-/// far as the fixture says.
+/// Asks a sub-device for its DEVICE_INFO, and puts what it tells at the end of a list. Gives whether there is one with this number, as far as
+/// the fixture says.
 fn ask_sub<P: Port>(
     mailbox: &mut Mailbox,
     port: &mut P,
     number: u16,
     told: &mut Vec<SubDevice>,
-) -> Result<bool, SurveyFault> {
+) -> Result<bool, SurveyFault>
+    ensures got { OnOk result (GoesOn P.hears port.old port.new) }
+    ensures tried { GoesOnTrying P.hears P.fails port.old port.new }
+{
     match ask(mailbox, port, number, DEVICE_INFO, Load::new()) {
         Ok(reply) => put_sub(number, &reply, told),
         Err(fault) => Err(fault),

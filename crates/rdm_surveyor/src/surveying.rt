@@ -1,5 +1,8 @@
 //! A fixture is asked for all that a survey tells of it.
 
+ghost use Rattle.std.specs.Prelude.{OnOk};
+ghost use Rattle.rdm_surveyor.specs.Getting.{GoesOn, GoesOnTrying, HasGot, HasTried};
+
 use crate::asking::{
     DEVICE_INFO, DEVICE_LABEL, DEVICE_MODEL_DESCRIPTION, MANUFACTURER_LABEL,
     SOFTWARE_VERSION_LABEL, ask, ask_hours, ask_personality, ask_text, data_in, text_in,
@@ -29,7 +32,26 @@ pub fn survey<P: Port>(
     uid: Uid,
     port: &mut P,
     reports: &mut Vec<Report>,
-) -> Result<Surveyed, SurveyFault> {
+) -> Result<Surveyed, SurveyFault>
+    // It sends GETs and nothing else.
+    ensures got { OnOk result (HasGot P.hears port.old port.new) }
+    // So it does where it stops, too, perhaps since the port failed at the last of them.
+    ensures tried { HasTried P.hears P.fails port.old port.new }
+{
+    ask_all(alloc, console, uid, port, reports)
+}
+
+/// The same, behind whatever was sent before.
+fn ask_all<P: Port>(
+    alloc: Global,
+    console: Uid,
+    uid: Uid,
+    port: &mut P,
+    reports: &mut Vec<Report>,
+) -> Result<Surveyed, SurveyFault>
+    ensures got { OnOk result (GoesOn P.hears port.old port.new) }
+    ensures tried { GoesOnTrying P.hears P.fails port.old port.new }
+{
     let mut mailbox = Mailbox::new(alloc, console, uid, Want::Warning);
     let mut row = untold(alloc, uid);
     if !ask_first(&mut mailbox, port, &mut row)? {
@@ -75,7 +97,10 @@ fn ask_first<P: Port>(
     mailbox: &mut Mailbox,
     port: &mut P,
     row: &mut Row,
-) -> Result<bool, SurveyFault> {
+) -> Result<bool, SurveyFault>
+    ensures got { OnOk result (GoesOn P.hears port.old port.new) }
+    ensures tried { GoesOnTrying P.hears P.fails port.old port.new }
+{
     let info = ask(mailbox, port, 0, DEVICE_INFO, Load::new())?;
     row.device = info_in(&info);
     let maker = ask(mailbox, port, 0, MANUFACTURER_LABEL, Load::new())?;
@@ -84,11 +109,10 @@ fn ask_first<P: Port>(
 }
 
 /// Asks for texts and hours.
-fn ask_texts<P: Port>(
-    mailbox: &mut Mailbox,
-    port: &mut P,
-    row: &mut Row,
-) -> Result<(), SurveyFault> {
+fn ask_texts<P: Port>(mailbox: &mut Mailbox, port: &mut P, row: &mut Row) -> Result<(), SurveyFault>
+    ensures got { OnOk result (GoesOn P.hears port.old port.new) }
+    ensures tried { GoesOnTrying P.hears P.fails port.old port.new }
+{
     row.model = ask_text(mailbox, port, DEVICE_MODEL_DESCRIPTION)?;
     row.label = ask_text(mailbox, port, DEVICE_LABEL)?;
     row.personality = ask_personality(mailbox, port, &row.device)?;
