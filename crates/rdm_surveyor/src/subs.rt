@@ -37,8 +37,8 @@ pub(crate) fn ask_subs<P: Port>(
     Ok(())
 }
 
-/// Asks a sub-device for its DEVICE_INFO, and puts what it tells at the end of a list. Gives whether there is one with this number, as far as
-/// the fixture says.
+/// Asks a sub-device for its DEVICE_INFO, and puts what it tells at the end of a list. Gives whether there is one with this number, as
+/// far as the fixture says.
 fn ask_sub<P: Port>(
     mailbox: &mut Mailbox,
     port: &mut P,
