@@ -15,7 +15,7 @@ _felosumay() {
         parameters:--fixture) mapfile -t COMPREPLY < <(compgen -f -- "$word"); return ;;
         widget:--fixture) mapfile -t COMPREPLY < <(compgen -f -- "$word"); return ;;
         widget:--count) :; return ;;
-        widget:--collision) :; return ;;
+        widget:--collision) mapfile -t COMPREPLY < <(compgen -W 'all-bits first rubbish' -- "$word"); return ;;
         widget:--subs) :; return ;;
         widget:--speed) :; return ;;
         widget:--saved) mapfile -t COMPREPLY < <(compgen -f -- "$word"); return ;;
@@ -23,8 +23,10 @@ _felosumay() {
         line:--limit) :; return ;;
         line:--trace) mapfile -t COMPREPLY < <(compgen -f -- "$word"); return ;;
         line:--fixture) mapfile -t COMPREPLY < <(compgen -f -- "$word"); return ;;
-        line:--by) :; return ;;
-        line:--format) :; return ;;
+        line:--by) mapfile -t COMPREPLY < <(compgen -W 'uid address model label' -- "$word"); return ;;
+        line:--format) mapfile -t COMPREPLY < <(compgen -W 'table csv json html' -- "$word"); return ;;
+        line:--from) mapfile -t COMPREPLY < <(compgen -f -- "$word"); return ;;
+        line:--gap) :; return ;;
         line:--sub) :; return ;;
         line:--uid) :; return ;;
     esac
@@ -62,17 +64,24 @@ _felosumay() {
             esac ;;
         line)
             case $word in
-                -*) mapfile -t COMPREPLY < <(compgen -W '--port --limit --trace --fixture -h --help -V --version --by --format --sub --uid --words' -- "$word") ;;
+                -*) mapfile -t COMPREPLY < <(compgen -W '--port --limit --trace --fixture -h --help -V --version --by --format --from --gap --yes --sub --uid --words' -- "$word") ;;
                 *)
                     case " ${COMP_WORDS[*]:2:COMP_CWORD-2} " in
                         *" find "*) : ;;
                         *" list "*) : ;;
+                        *" address "*) : ;;
                         *" get "*) mapfile -t COMPREPLY < <(compgen -W "$(felosumay parameters 2>/dev/null | cut -d, -f1 | cut -d" " -f2)" -- "$word") ;;
                         *" set "*) mapfile -t COMPREPLY < <(compgen -W "$(felosumay parameters 2>/dev/null | cut -d, -f1 | cut -d" " -f2)" -- "$word") ;;
+                        *" identify "*) mapfile -t COMPREPLY < <(compgen -W 'on off' -- "$word") ;;
+                        *" sensors "*) : ;;
+                        *" status "*) : ;;
                         *" collect "*) : ;;
+                        *" save "*) mapfile -t COMPREPLY < <(compgen -f -- "$word") ;;
+                        *" compare "*) mapfile -t COMPREPLY < <(compgen -f -- "$word") ;;
+                        *" restore "*) mapfile -t COMPREPLY < <(compgen -f -- "$word") ;;
                         *" watch "*) : ;;
                         *" play "*) mapfile -t COMPREPLY < <(compgen -f -- "$word") ;;
-                        *) mapfile -t COMPREPLY < <(compgen -W 'find list get set collect watch play' -- "$word") ;;
+                        *) mapfile -t COMPREPLY < <(compgen -W 'find list address get set identify sensors status collect save compare restore watch play' -- "$word") ;;
                     esac ;;
             esac ;;
     esac

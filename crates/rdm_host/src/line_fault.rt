@@ -66,6 +66,20 @@ pub enum LineFault<'a> {
     NoResult(Uid),
     /// The device gives more parts or messages than there can be.
     Endless(Uid),
+    /// A file isn't what the command reads, for this reason.
+    File(&'a str, String),
+    /// A file has so many settings that can't be right, each of which was told.
+    Unsettled(&'a str, usize),
+    /// The devices need slots up to this one.
+    NoRoom(u32),
+    /// So many of so many settings weren't made, each of which was told.
+    Undone(usize, usize),
+    /// So many things differ from a survey, each of which was told.
+    Differs(usize),
+    /// The device has another value than the one that was set.
+    OtherValue(Uid),
+    /// Of a command and a file of settings, neither is given, or both.
+    OneOfBoth,
 }
 
 impl LineFault<'_> {
@@ -80,7 +94,9 @@ impl LineFault<'_> {
             | LineFault::NoCommand
             | LineFault::Several(_)
             | LineFault::Reserved
-            | LineFault::TooLong => BAD_USAGE,
+            | LineFault::TooLong
+            | LineFault::OneOfBoth => BAD_USAGE,
+            LineFault::File(_, _) | LineFault::Unsettled(_, _) | LineFault::Differs(_) => 1,
             LineFault::NoPort(_)
             | LineFault::Taken(_)
             | LineFault::NoInterface(_)
@@ -96,8 +112,27 @@ impl LineFault<'_> {
             | LineFault::NoQueue(_)
             | LineFault::Refused(_, _)
             | LineFault::NoResult(_)
-            | LineFault::Endless(_) => 3,
+            | LineFault::Endless(_)
+            | LineFault::OtherValue(_)
+            | LineFault::NoRoom(_)
+            | LineFault::Undone(_, _) => 3,
         }
+    }
+
+    /// Whether it is one device that is at fault, so that others may be asked.
+    pub fn is_of_device(&self) -> bool {
+        matches!(
+            self,
+            LineFault::Silent(_)
+                | LineFault::Rejected(_)
+                | LineFault::Failed(_)
+                | LineFault::Unknown(_)
+                | LineFault::NoQueue(_)
+                | LineFault::Refused(_, _)
+                | LineFault::NoResult(_)
+                | LineFault::Endless(_)
+                | LineFault::OtherValue(_)
+        )
     }
 }
 
@@ -190,8 +225,45 @@ impl fmt::Display for LineFault<'_> {
             | LineFault::Closed(_)
             | LineFault::Port(_)
             | LineFault::Busy => { write_no_port(f, self) }
+            LineFault::File(_, _)
+            | LineFault::Unsettled(_, _)
+            | LineFault::NoRoom(_)
+            | LineFault::Undone(_, _)
+            | LineFault::Differs(_)
+            | LineFault::OneOfBoth => write_of_several(f, self),
             _ => write_unanswered(f, self),
         }
+    }
+}
+
+/// Writes what is wrong with what is asked of several devices.
+fn write_of_several<W: fmt::Write>(
+    f: &mut fmt::Formatter<W>,
+    fault: &LineFault<'_>,
+) -> fmt::Result {
+    match fault {
+        LineFault::File(path, reason) => write!(f, "{}: {reason}", Name(path)),
+        LineFault::Unsettled(path, 1) => write!(
+            f,
+            "{}: nothing was set, since one setting can't be right",
+            Name(path)
+        ),
+        LineFault::Unsettled(path, count) => write!(
+            f,
+            "{}: nothing was set, since {count} settings can't be right",
+            Name(path)
+        ),
+        LineFault::NoRoom(last) => write!(
+            f,
+            "the devices need slots up to {last}, and DMX512 has 512"
+        ),
+        LineFault::Undone(undone, count) => write!(f, "{undone} of {count} failed"),
+        LineFault::Differs(1) => f.write_str("one difference"),
+        LineFault::Differs(count) => write!(f, "{count} differences"),
+        LineFault::OneOfBoth => f.write_str(
+            "expected either a UID and a parameter, or --from FILE.csv",
+        ),
+        _ => Ok(()),
     }
 }
 
@@ -268,6 +340,7 @@ fn write_unanswered<W: fmt::Write>(
         }
         LineFault::NoResult(uid) => write!(f, "{uid} sent no result in time"),
         LineFault::Endless(uid) => write!(f, "{uid} sends messages without end"),
+        LineFault::OtherValue(uid) => write!(f, "{uid} took the value, and tells another one"),
         _ => f.write_str("the search found no end"),
     }
 }

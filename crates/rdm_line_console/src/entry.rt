@@ -1,18 +1,19 @@
 //! The data of a command, as people write them.
 
-use super::console::Console;
-use super::telling::CONSOLE;
 use rdm_collector::{Action, Command, Load, Port, Response, Want, read_reply};
 use rdm_console::Mailbox;
 use rdm_entry::{
-    Complaint, Field, data_in, fields_described, fields_of, nearest_parameter, parameter_named,
+    Complaint, Field, fields_described, fields_of, nearest_parameter, parameter_named,
 };
-use rdm_frame::digits::{bytes_in, word_in};
+use rdm_frame::Uid;
+use rdm_frame::digits::word_in;
 use rdm_frame::standard::{MOST_DATA, PARAMETER_DESCRIPTION};
 use rdm_host::fault::Fault;
 use rdm_host::host::Host;
 use rdm_host::line_fault::LineFault;
+use rdm_line_talk::{CONSOLE, Console};
 use rdm_params::Verb;
+use rdm_settings::{Unsaid, data_of};
 use std::alloc::Global;
 use std::io::Write;
 
@@ -66,8 +67,13 @@ pub(crate) fn parameter_in<'a>(word: &'a str) -> Result<u16, Fault<'a>> {
     }
 }
 
-/// The data that words say for a command. A single hyphen says that there are none.
-pub(crate) fn load_in<'a>(command: &Command, words: &[&'a str]) -> Result<Entry, Fault<'a>> {
+/// The data that words say for a command. A single hyphen says that there are none. If each device it is for is a single one, they may
+/// describe the parameter.
+pub(crate) fn load_in<'a>(
+    command: &Command,
+    words: &[&'a str],
+    may_describe: bool,
+) -> Result<Entry, Fault<'a>> {
     if words == [NO_DATA].as_slice() {
         return Ok(Entry::Data(Load::new()));
     }
@@ -79,88 +85,77 @@ pub(crate) fn load_in<'a>(command: &Command, words: &[&'a str]) -> Result<Entry,
         Action::Get | Action::Disc => Verb::Get,
     };
     match fields_of(command.pid, verb) {
-        Some(fields) => Ok(Entry::Data(data_of(fields, words)?)),
-        None if may_be_described(command) => Ok(Entry::Unknown),
-        None => Ok(Entry::Data(digits_of(words)?)),
+        None if may_describe && is_describable(command) => Ok(Entry::Unknown),
+        fields => Ok(Entry::Data(load_of(fields, words)?)),
     }
 }
 
 /// Whether a device may describe the data of a command (section 10.4.2): those of a SET of its maker's own parameters.
-fn may_be_described(command: &Command) -> bool {
-    command.action == Action::Set && command.pid >= FIRST_OF_MAKERS && !command.dst.is_broadcast()
+fn is_describable(command: &Command) -> bool {
+    command.action == Action::Set && command.pid >= FIRST_OF_MAKERS
 }
 
-/// The data that words say for these fields.
-fn data_of<'a>(fields: &[Field], words: &[&'a str]) -> Result<Load, Fault<'a>> {
-    match data_in(fields, words) {
+/// The data that words say for these fields, or in hexadecimal digits where nobody knows them.
+fn load_of<'a>(fields: Option<&[Field]>, words: &[&'a str]) -> Result<Load, Fault<'a>> {
+    match data_of(fields, words) {
         Ok(load) => Ok(load),
-        Err(error) => Err(Fault::Line(LineFault::NoData(Complaint::of(error, fields, words)))),
+        Err(unsaid) => Err(Fault::Line(fault_of(unsaid, fields.unwrap_or(&[]), words))),
     }
 }
 
-/// The data that a word says in hexadecimal digits, two for each byte, or none without a word: for a parameter whose fields nobody
-/// knows.
-fn digits_of<'a>(words: &[&'a str]) -> Result<Load, Fault<'a>> {
-    match words {
-        [] => Ok(Load::new()),
-        [word] => match bytes_said(word.as_bytes()) {
-            Some(load) => Ok(load),
-            None => Err(Fault::Line(LineFault::NoDigits(word))),
-        },
-        [_, word, ..] => Err(Fault::Line(LineFault::NoDigits(word))),
+/// The fault of words that aren't data.
+fn fault_of<'a>(unsaid: Unsaid, fields: &[Field], words: &[&'a str]) -> LineFault<'a> {
+    match unsaid {
+        Unsaid::Field(error) => LineFault::NoData(Complaint::of(error, fields, words)),
+        Unsaid::Digits(index) => LineFault::NoDigits(words.get(index).copied().unwrap_or("")),
+        Unsaid::TooLong => LineFault::TooLong,
+        // Words of the command line are text.
+        Unsaid::NoText => LineFault::NoCommand,
     }
 }
 
-/// The bytes that a word of hexadecimal digits says.
-fn bytes_said(word: &[u8]) -> Option<Load> {
-    if word.len() > MOST_DIGITS {
-        return None;
-    }
-    bytes_in(word)
+/// Sends a command to this device, with the data that its words say by the description of the parameter. If the device gives none that
+/// says which fields it has, the data are hexadecimal digits.
+pub(crate) fn ask_described<'a, H: Host, P: Port, F: Write>(
+    console: &mut Console<'a, H, P, F>,
+    uid: Uid,
+    described: &Described<'a>,
+) -> Result<(), Fault<'a>> {
+    let words = described.words.as_slice();
+    let pid = described.command.pid;
+    let fields = description_of(console, uid, pid)?;
+    let load = load_of(fields.as_deref(), words)?;
+    console.ask(&Command {
+        dst: uid,
+        load,
+        ..described.command.copy()
+    })
 }
 
-impl<'a, H: Host, P: Port, F: Write> Console<'a, H, P, F> {
-    /// Sends a command, with the data that its words say by the description of the parameter. If the device gives none that says
-    /// which fields it has, the data are hexadecimal digits.
-    pub(crate) fn ask_described(&mut self, described: &Described<'a>) -> Result<(), Fault<'a>> {
-        let Described { command, words } = described;
-        let words = words.as_slice();
-        let load = match self.description_of(command)? {
-            Some(fields) => data_of(fields.as_slice(), words)?,
-            None => digits_of(words)?,
-        };
-        self.ask(&Command {
-            dst: command.dst,
-            action: command.action,
-            sub: command.sub,
-            pid: command.pid,
-            load,
-        })
-    }
-
-    /// The fields of the parameter of a command, as its device describes them.
-    fn description_of(&mut self, command: &Command) -> Result<Option<Vec<Field>>, Fault<'a>> {
-        let alloc = self.teller.rt().alloc();
-        let mut mailbox = Mailbox::new(alloc, CONSOLE, command.dst, Want::Advisory);
-        let Some(reply) = self.answer(&mut mailbox, &question(command))? else {
-            return Err(Fault::Line(LineFault::Silent(command.dst)));
-        };
-        match read_reply(reply.as_slice()) {
-            Some(said) if said.response == Response::Ack => {
-                Ok(fields_described(alloc, said.body)?)
-            }
-            _ => Ok(None),
-        }
+/// The fields of a parameter, as this device describes them.
+fn description_of<'a, H: Host, P: Port, F: Write>(
+    console: &mut Console<'a, H, P, F>,
+    uid: Uid,
+    pid: u16,
+) -> Result<Option<Vec<Field>>, Fault<'a>> {
+    let alloc = console.teller.rt().alloc();
+    let mut mailbox = Mailbox::new(alloc, CONSOLE, uid, Want::Advisory);
+    let Some(reply) = console.answer(&mut mailbox, &question(uid, pid))? else {
+        return Err(Fault::Line(LineFault::Silent(uid)));
+    };
+    match read_reply(reply.as_slice()) {
+        Some(said) if said.response == Response::Ack => { Ok(fields_described(alloc, said.body)?) }
+        _ => Ok(None),
     }
 }
 
-/// Asks for the description of the parameter of a command.
-fn question(command: &Command) -> Command {
+/// Asks a device for the description of a parameter.
+fn question(uid: Uid, pid: u16) -> Command {
     Command {
-        dst: command.dst,
+        dst: uid,
         action: Action::Get,
         sub: 0,
         pid: PARAMETER_DESCRIPTION,
-        load: Load::of(&command.pid.to_be_bytes()),
+        load: Load::of(&pid.to_be_bytes()),
     }
 }

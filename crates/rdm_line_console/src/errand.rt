@@ -1,9 +1,8 @@
 //! What is asked for on a line.
 
-use super::console::Console;
-use super::entry::{Described, Entry, load_in, parameter_in};
-use super::listing::Listing;
-use super::playing::Play;
+use super::entry::{Described, Entry, ask_described, load_in, parameter_in};
+use super::playing::{Play, play_through};
+use super::watching::watch;
 use clap::ArgMatches;
 use rdm_bus::Fault as BusFault;
 use rdm_collector::{Action, Command, Port, is_reserved};
@@ -13,6 +12,11 @@ use rdm_host::fault::Fault;
 use rdm_host::host::Host;
 use rdm_host::line_fault::LineFault;
 use rdm_host::source::Source;
+use rdm_line_survey::{
+    Addressing, Identifying, Listing, Restoring, Settings, Then, address, compare, identify, list,
+    restore, save, sensors, set_all, status,
+};
+use rdm_line_talk::{CONSOLE, Console, Tally, Targets};
 use rdm_script::{Dialect, ScriptError, Spelling, parse_as, refusal_at};
 use std::io::Write;
 
@@ -23,14 +27,30 @@ pub enum Errand<'a> {
     Find,
     /// All devices are listed.
     List(Listing),
+    /// Start addresses are proposed, or set.
+    Address(Addressing),
     /// A command is sent.
-    Ask(Command),
-    /// A command is sent whose data the device describes first.
-    Describe(Described<'a>),
-    /// The messages of a device are fetched.
-    Collect(Uid),
+    Ask(Targets, Command),
+    /// A command is sent whose data the devices describe first.
+    Describe(Targets, Described<'a>),
+    /// The settings of a file are made.
+    Set(Settings<'a>),
+    /// Devices identify themselves, or no longer.
+    Identify(Identifying),
+    /// The sensors of devices are listed.
+    Sensors(Targets),
+    /// What is wrong with devices is listed.
+    Status(Targets),
+    /// The messages of devices are fetched.
+    Collect(Targets),
     /// All devices are polled in turn.
     Watch,
+    /// A survey is kept in the file of this name.
+    Save(&'a str),
+    /// All devices are compared with a survey.
+    Compare(Then),
+    /// Devices are set back to a survey.
+    Restore(Restoring),
     /// A script is played.
     Play(Play),
 }
@@ -43,13 +63,36 @@ impl<'a> Errand<'a> {
     ) -> Result<Errand<'a>, Fault<'a>> {
         match asked.subcommand() {
             Some(("list", words)) => Ok(Errand::List(Listing::asked_for(words))),
+            Some(("address", words)) => Ok(Errand::Address(Addressing::asked_for(words))),
             Some(("get", words)) => command(rt, Action::Get, words),
-            Some(("set", words)) => command(rt, Action::Set, words),
-            Some(("collect", words)) => Ok(Errand::Collect(device_in(words)?)),
+            Some(("set", words)) => set(rt, words),
             Some(("watch", _words)) => Ok(Errand::Watch),
             Some(("play", words)) => {
                 refuse_clashes(asked, words)?;
                 Ok(Errand::Play(Play::asked_for(rt, words)?))
+            }
+            Some((name, words)) => Errand::of_survey(rt, name, words),
+            None => Ok(Errand::Find),
+        }
+    }
+
+    /// What of a survey the words behind this name ask for.
+    fn of_survey<H: Host>(
+        rt: H,
+        name: &str,
+        words: &ArgMatches<'a>,
+    ) -> Result<Errand<'a>, Fault<'a>> {
+        let alloc = rt.alloc();
+        match name {
+            "identify" => Ok(Errand::Identify(Identifying::asked_for(alloc, words)?)),
+            "sensors" => Ok(Errand::Sensors(Targets::single(alloc, words)?)),
+            "status" => Ok(Errand::Status(Targets::single(alloc, words)?)),
+            "collect" => Ok(Errand::Collect(Targets::single(alloc, words)?)),
+            "save" => Ok(Errand::Save(written_in(words)?)),
+            "compare" => Ok(Errand::Compare(then_in(rt, words)?)),
+            "restore" => {
+                let then = then_in(rt, words)?;
+                Ok(Errand::Restore(Restoring::asked_for(words, then)))
             }
             _ => Ok(Errand::Find),
         }
@@ -62,14 +105,69 @@ impl<'a> Errand<'a> {
     ) -> Result<(), Fault<'a>> {
         match self {
             Errand::Find => console.find(),
-            Errand::List(listing) => console.list(*listing),
-            Errand::Ask(command) => console.ask(command),
-            Errand::Describe(described) => console.ask_described(described),
-            Errand::Collect(uid) => console.collect(*uid),
-            Errand::Watch => console.watch(),
-            Errand::Play(play) => console.play(play),
+            Errand::List(listing) => list(console, *listing),
+            Errand::Address(addressing) => address(console, *addressing),
+            Errand::Ask(targets, command) => ask_each(console, targets, command),
+            Errand::Describe(targets, described) => describe_each(console, targets, described),
+            Errand::Set(settings) => set_all(console, settings),
+            Errand::Identify(identifying) => identify(console, identifying),
+            Errand::Sensors(targets) => sensors(console, targets),
+            Errand::Status(targets) => status(console, targets),
+            Errand::Collect(targets) => collect_each(console, targets),
+            Errand::Watch => watch(console),
+            Errand::Save(path) => save(console, *path),
+            Errand::Compare(then) => compare(console, then),
+            Errand::Restore(restoring) => restore(console, restoring),
+            Errand::Play(script) => play_through(console, script),
         }
     }
+}
+
+/// Sends a command to each of these devices.
+fn ask_each<'a, H: Host, P: Port, F: Write>(
+    console: &mut Console<'a, H, P, F>,
+    targets: &Targets,
+    command: &Command,
+) -> Result<(), Fault<'a>> {
+    let uids = console.uids_of(targets)?;
+    let mut tally = Tally::new(uids.len());
+    for uid in &uids {
+        let done = console.ask(&Command {
+            dst: *uid,
+            ..command.copy()
+        });
+        tally.take(&console.teller, done)?;
+    }
+    tally.end()
+}
+
+/// Sends a command to each of these devices, which describes its data first.
+fn describe_each<'a, H: Host, P: Port, F: Write>(
+    console: &mut Console<'a, H, P, F>,
+    targets: &Targets,
+    described: &Described<'a>,
+) -> Result<(), Fault<'a>> {
+    let uids = console.uids_of(targets)?;
+    let mut tally = Tally::new(uids.len());
+    for uid in &uids {
+        let done = ask_described(console, *uid, described);
+        tally.take(&console.teller, done)?;
+    }
+    tally.end()
+}
+
+/// Fetches all messages that wait in each of these devices.
+fn collect_each<'a, H: Host, P: Port, F: Write>(
+    console: &mut Console<'a, H, P, F>,
+    targets: &Targets,
+) -> Result<(), Fault<'a>> {
+    let uids = console.uids_of(targets)?;
+    let mut tally = Tally::new(uids.len());
+    for uid in &uids {
+        let done = console.collect(*uid);
+        tally.take(&console.teller, done)?;
+    }
+    tally.end()
 }
 
 /// Refuses a script on standard input, if that is the line, and one that the trace would be written over.
@@ -84,57 +182,77 @@ fn refuse_clashes<'a>(asked: &ArgMatches<'a>, words: &ArgMatches<'a>) -> Result<
     }
 }
 
-/// The UID that is named.
-fn uid_in<'a>(asked: &ArgMatches<'a>) -> Result<Uid, Fault<'a>> {
-    let word = asked.get_str(rdm_usage::UID).unwrap_or("");
-    match Uid::from_text(word.as_bytes()) {
-        Some(uid) => Ok(uid),
-        None => Err(Fault::Line(LineFault::NoUid(word))),
+/// The name of the file to which a survey is written. One that is read, or that the trace is written to, is refused.
+fn written_in<'a>(asked: &ArgMatches<'a>) -> Result<&'a str, Fault<'a>> {
+    let path = asked.get_str(rdm_usage::FILE).unwrap_or("");
+    let fixtures = asked.get_strs(rdm_usage::FIXTURE).unwrap_or(&[]);
+    let is_used = fixtures.iter().any(|name| *name == path)
+        || asked.get_str(rdm_usage::PORT) == Some(path)
+        || asked.get_str(rdm_usage::TRACE) == Some(path);
+    if is_used && path != "-" {
+        return Err(Fault::Overwritten(path));
+    }
+    Ok(path)
+}
+
+/// The name of a file that is read. Standard input is refused, if that is the line, and a file that the trace would be written over.
+fn read_in<'a>(asked: &ArgMatches<'a>, path: &'a str) -> Result<&'a str, Fault<'a>> {
+    if path == "-" && asked.get_str(rdm_usage::PORT) == Some("-") {
+        return Err(Fault::ReadTwice);
+    }
+    if asked.get_str(rdm_usage::TRACE) == Some(path) {
+        return Err(Fault::Overwritten(path));
+    }
+    Ok(path)
+}
+
+/// What a file kept of a survey.
+fn then_in<'a, H: Host>(rt: H, asked: &ArgMatches<'a>) -> Result<Then, Fault<'a>> {
+    let path = asked.get_str(rdm_usage::FILE).unwrap_or("");
+    Then::read(rt, read_in(asked, path)?)
+}
+
+/// The command or the file of settings that is asked for.
+fn set<'a, H: Host>(rt: H, asked: &ArgMatches<'a>) -> Result<Errand<'a>, Fault<'a>> {
+    let names_parameter = asked.get_str(rdm_usage::PARAMETER).is_some();
+    match asked.get_str(rdm_usage::FROM) {
+        Some(path) if asked.get_str(rdm_usage::UID).is_none() => {
+            Ok(Errand::Set(Settings::read(rt, read_in(asked, path)?)?))
+        }
+        None if names_parameter => command(rt, Action::Set, asked),
+        _ => Err(Fault::Line(LineFault::OneOfBoth)),
     }
 }
 
-/// The UID that is named, which is that of one device.
-pub(crate) fn device_in<'a>(asked: &ArgMatches<'a>) -> Result<Uid, Fault<'a>> {
-    let uid = uid_in(asked)?;
-    if uid.is_broadcast() {
-        return Err(Fault::Line(LineFault::Several(uid)));
-    }
-    Ok(uid)
-}
-
-/// The command that is asked for: a parameter by its name, and its data as people write them. A GET to several devices is refused,
-/// since nobody answers it.
+/// The command that is asked for: a parameter by its name, and its data as people write them. A GET to several devices by one UID is
+/// refused, since nobody answers it.
 fn command<'a, H: Host>(
     rt: H,
     action: Action,
     asked: &ArgMatches<'a>,
 ) -> Result<Errand<'a>, Fault<'a>> {
-    let uid = uid_in(asked)?;
-    let mut command = place_in(rt, uid, asked.get_str(rdm_usage::SUB).unwrap_or("root"))?;
+    let targets = match action {
+        Action::Set => Targets::asked_for(rt.alloc(), asked)?,
+        Action::Get | Action::Disc => Targets::single(rt.alloc(), asked)?,
+    };
+    let mut command = place_in(rt, CONSOLE, asked.get_str(rdm_usage::SUB).unwrap_or("root"))?;
     command.action = action;
     command.pid = parameter_in(asked.get_str(rdm_usage::PARAMETER).unwrap_or(""))?;
-    if let Some(fault) = refusal(&command) {
-        return Err(Fault::Line(fault));
+    if is_reserved(command.pid) {
+        return Err(Fault::Line(LineFault::Reserved));
     }
     let words = asked.get_strs(rdm_usage::DATA).unwrap_or(&[]);
-    match load_in(&command, words)? {
+    let may_describe = targets.several().is_none();
+    match load_in(&command, words, may_describe)? {
         Entry::Data(load) => {
             command.load = load;
-            Ok(Errand::Ask(command))
+            Ok(Errand::Ask(targets, command))
         }
-        Entry::Unknown => Ok(Errand::Describe(Described::new(rt.alloc(), command, words)?)),
+        Entry::Unknown => {
+            let described = Described::new(rt.alloc(), command, words)?;
+            Ok(Errand::Describe(targets, described))
+        }
     }
-}
-
-/// Why a command isn't sent.
-fn refusal<'a>(command: &Command) -> Option<LineFault<'a>> {
-    if command.action == Action::Get && command.dst.is_broadcast() {
-        return Some(LineFault::Several(command.dst));
-    }
-    if is_reserved(command.pid) {
-        return Some(LineFault::Reserved);
-    }
-    None
 }
 
 /// A command without data to this device, and to the sub-device that is named as in a script.

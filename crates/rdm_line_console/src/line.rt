@@ -1,11 +1,7 @@
 //! What is asked for is done on the line of a port.
 
-use super::console::Console;
 use super::errand::Errand;
-use super::knowledge::Knowledge;
-use super::log::{Log, TraceFile};
-use super::recorder::Recorder;
-use super::telling::{Place, Teller, Terminals};
+use super::hint::Hint;
 use clap::ArgMatches;
 use rdm_collector::PortError;
 use rdm_host::fault::Fault;
@@ -14,6 +10,7 @@ use rdm_host::line_fault::LineFault;
 use rdm_host::source::Source;
 use rdm_host::watched::Watched;
 use rdm_interface::{Clock, Interface, RealClock};
+use rdm_line_talk::{Console, Knowledge, Log, Place, Recorder, Teller, Terminals, TraceFile};
 use std::fs::{File, OpenOptions, TryLockError};
 use std::io;
 use std::io::{IsTerminal, Read, Write};
@@ -107,7 +104,7 @@ fn lock<'a>(name: &'a str, port: &File) -> Result<(), Fault<'a>> {
     }
 }
 
-/// Does it through this port.
+/// Does it through this port. What is left of those who used the port before is passed over first, if a read returns without a byte.
 fn run_on<'a, H: Host, R: Read + Drop, W: Write + Drop>(
     teller: Teller<H>,
     asked: &ArgMatches<'a>,
@@ -128,8 +125,16 @@ fn run_on<'a, H: Host, R: Read + Drop, W: Write + Drop>(
         writer,
         gives_up,
     } = ends;
-    let port = Interface::new(Watched::new(reader), Watched::new(writer), clock, limit);
-    talk(teller, errand, name, gives_up, port, log)
+    let mut port = Interface::new(Watched::new(reader), Watched::new(writer), clock, limit);
+    if gives_up {
+        let hint = Hint::after(rt, name, limit)?;
+        let cleared = port.clear();
+        hint.is_over();
+        if let Err(error) = cleared {
+            return Err(told(name, Fault::from(error), port));
+        }
+    }
+    talk(teller, errand, name, port, log)
 }
 
 /// Does it through this interface, of a port of that name.
@@ -137,11 +142,10 @@ fn talk<'a, H: Host, R: Read + Drop, W: Write + Drop, C: Clock + Drop>(
     teller: Teller<H>,
     errand: &Errand<'a>,
     name: &'a str,
-    gives_up: bool,
     mut port: Interface<Watched<R>, Watched<W>, C>,
     log: Log<'a, H, H::File>,
 ) -> Result<(), Fault<'a>> {
-    if let Err(fault) = greet(name, &mut port, gives_up) {
+    if let Err(fault) = greet(name, &mut port) {
         return Err(told(name, fault, port));
     }
     let mut console = Console {
@@ -184,16 +188,11 @@ fn open<'a, H: Host>(rt: H, path: &'a str) -> Result<File, Fault<'a>> {
     }
 }
 
-/// Passes over what is left of those who used the port before, and asks the interface for its serial number, or else for its
-/// parameters: so it is known that there is one.
+/// Asks the interface for its serial number, or else for its parameters: so it is known that there is one.
 fn greet<'a, R: Read, W: Write, C: Clock>(
     name: &'a str,
     port: &mut Interface<R, W, C>,
-    gives_up: bool,
 ) -> Result<(), Fault<'a>> {
-    if gives_up {
-        port.clear()?;
-    }
     if port.serial_number()?.is_some() || port.parameters()?.is_some() {
         return Ok(());
     }

@@ -1,9 +1,5 @@
 //! A script is played on a real device.
 
-use super::console::Console;
-use super::errand::device_in;
-use super::log::Printed;
-use super::telling::CONSOLE;
 use clap::ArgMatches;
 use rdm_bus::Fault as BusFault;
 use rdm_collector::{
@@ -14,7 +10,9 @@ use rdm_crew::{CrewStep, RunError};
 use rdm_frame::standard::DISC_MUTE;
 use rdm_host::fault::Fault;
 use rdm_host::host::Host;
+use rdm_host::line_fault::LineFault;
 use rdm_host::source::{Source, without_mark};
+use rdm_line_talk::{CONSOLE, Console, Printed, uid_in};
 use rdm_script::{Dialect, Finds, MOST_BYTES, Script, Spelling, parse_as};
 use rdm_trace::Line;
 use std::io::Write;
@@ -49,6 +47,15 @@ impl Play {
             }),
         }
     }
+}
+
+/// The UID that is named, which is that of one device.
+fn device_in<'a>(asked: &ArgMatches<'a>) -> Result<Uid, Fault<'a>> {
+    let uid = uid_in(asked.get_str(rdm_usage::UID).unwrap_or(""))?;
+    if uid.is_broadcast() {
+        return Err(Fault::Line(LineFault::Several(uid)));
+    }
+    Ok(uid)
 }
 
 /// As what the trace of a script for this device is to be printed.
@@ -97,97 +104,106 @@ impl Playing {
     }
 }
 
-impl<'a, H: Host, P: Port, F: Write> Console<'a, H, P, F> {
-    /// Plays a script, and prints its trace, or its words. Its commands and polls are sent, once each, and what goes wrong with them
-    /// does. A settle waits for as long as the device has estimated for all commands since the last one. What else happens in a
-    /// script, happens in the device by itself.
-    pub(crate) fn play(&mut self, play: &Play) -> Result<(), Fault<'a>> {
-        let Play {
-            uid,
-            script,
-            printed,
-        } = play;
-        self.port.log().print_as(*printed);
-        let alloc = self.teller.rt().alloc();
-        let mut playing = Playing {
-            uid: *uid,
-            collector: DeviceCollector::new(alloc, CONSOLE, *uid, script.setup.want),
-            finds: script.finds,
-            tenths: 0,
-        };
-        self.play_all(&mut playing, script)
-    }
+/// Plays a script, and prints its trace, or its words. Its commands and polls are sent, once each, and what goes wrong with them
+/// does. A settle waits for as long as the device has estimated for all commands since the last one. What else happens in a
+/// script, happens in the device by itself.
+pub(crate) fn play_through<'a, H: Host, P: Port, F: Write>(
+    console: &mut Console<'a, H, P, F>,
+    play: &Play,
+) -> Result<(), Fault<'a>> {
+    let Play {
+        uid,
+        script,
+        printed,
+    } = play;
+    console.port.log().print_as(*printed);
+    let alloc = console.teller.rt().alloc();
+    let mut playing = Playing {
+        uid: *uid,
+        collector: DeviceCollector::new(alloc, CONSOLE, *uid, script.setup.want),
+        finds: script.finds,
+        tenths: 0,
+    };
+    play_all(console, &mut playing, script)
+}
 
-    /// Plays all steps of a script, and tells what was collected.
-    fn play_all(&mut self, playing: &mut Playing, script: &Script) -> Result<(), Fault<'a>> {
-        for step in &script.steps {
-            self.play_step(playing, step)?;
-        }
-        for item in playing.collector.recorded() {
-            self.port.keep(Line::Message(item.message.copy()))?;
-        }
-        Ok(self.port.keep(Line::End)?)
+/// Plays all steps of a script, and tells what was collected.
+fn play_all<'a, H: Host, P: Port, F: Write>(
+    console: &mut Console<'a, H, P, F>,
+    playing: &mut Playing,
+    script: &Script,
+) -> Result<(), Fault<'a>> {
+    for step in &script.steps {
+        play_step(console, playing, step)?;
     }
-
-    /// Plays a step.
-    fn play_step(&mut self, playing: &mut Playing, step: &CrewStep) -> Result<(), Fault<'a>> {
-        match step {
-            CrewStep::Ask(command, fault) => self.play_command(playing, command, *fault),
-            CrewStep::Collect(fault) => {
-                let request = playing.collector.poll()?;
-                self.carry(playing, &request, *fault)?;
-                Ok(())
-            }
-            CrewStep::Settle(_empties) => {
-                self.teller.wait(playing.uid, playing.tenths);
-                playing.tenths = 0;
-                Ok(())
-            }
-            CrewStep::Draw | CrewStep::Panel(_) => Ok(()),
-        }
+    for item in playing.collector.recorded() {
+        console.port.keep(Line::Message(item.message.copy()))?;
     }
+    Ok(console.port.keep(Line::End)?)
+}
 
-    /// Sends a command, of which this goes wrong.
-    fn play_command(
-        &mut self,
-        playing: &mut Playing,
-        command: &Command,
-        fault: BusFault,
-    ) -> Result<(), Fault<'a>> {
-        let request = playing.collector.ask(command)?;
-        match self.carry(playing, &request, fault)? {
-            Some(Response::AckTimer { tenths }) => {
-                playing.tenths = playing.tenths.saturating_add(tenths);
-                Ok(())
-            }
-            Some(Response::Ack) if playing.tells_find(command) => {
-                Ok(self.port.keep(Line::Found(command.dst))?)
-            }
-            _ => Ok(()),
+/// Plays a step.
+fn play_step<'a, H: Host, P: Port, F: Write>(
+    console: &mut Console<'a, H, P, F>,
+    playing: &mut Playing,
+    step: &CrewStep,
+) -> Result<(), Fault<'a>> {
+    match step {
+        CrewStep::Ask(command, fault) => play_command(console, playing, command, *fault),
+        CrewStep::Collect(fault) => {
+            let request = playing.collector.poll()?;
+            carry(console, playing, &request, *fault)?;
+            Ok(())
         }
+        CrewStep::Settle(_empties) => {
+            console.teller.wait(playing.uid, playing.tenths);
+            playing.tenths = 0;
+            Ok(())
+        }
+        CrewStep::Draw | CrewStep::Panel(_) => Ok(()),
     }
+}
 
-    /// Sends a request, of which this goes wrong, keeps what it is taken for, and gives the response, if it is heard as one.
-    fn carry(
-        &mut self,
-        playing: &mut Playing,
-        request: &Wire,
-        fault: BusFault,
-    ) -> Result<Option<Response>, Fault<'a>> {
-        let heard = self.port.carry(request, fault)?;
-        let taken = taken_for(&mut playing.collector, &heard);
-        let Some(bytes) = heard else {
-            self.port.keep(Line::Heard(None))?;
-            return Ok(None);
-        };
-        self.port.keep(Line::Heard(Some(told_as(taken))))?;
-        if taken != DeviceHeard::Reply {
-            return Ok(None);
+/// Sends a command, of which this goes wrong.
+fn play_command<'a, H: Host, P: Port, F: Write>(
+    console: &mut Console<'a, H, P, F>,
+    playing: &mut Playing,
+    command: &Command,
+    fault: BusFault,
+) -> Result<(), Fault<'a>> {
+    let request = playing.collector.ask(command)?;
+    match carry(console, playing, &request, fault)? {
+        Some(Response::AckTimer { tenths }) => {
+            playing.tenths = playing.tenths.saturating_add(tenths);
+            Ok(())
         }
-        match read_reply(bytes.as_slice()) {
-            Some(reply) => Ok(Some(reply.response)),
-            None => Ok(None),
+        Some(Response::Ack) if playing.tells_find(command) => {
+            Ok(console.port.keep(Line::Found(command.dst))?)
         }
+        _ => Ok(()),
+    }
+}
+
+/// Sends a request, of which this goes wrong, keeps what it is taken for, and gives the response, if it is heard as one.
+fn carry<'a, H: Host, P: Port, F: Write>(
+    console: &mut Console<'a, H, P, F>,
+    playing: &mut Playing,
+    request: &Wire,
+    fault: BusFault,
+) -> Result<Option<Response>, Fault<'a>> {
+    let heard = console.port.carry(request, fault)?;
+    let taken = taken_for(&mut playing.collector, &heard);
+    let Some(bytes) = heard else {
+        console.port.keep(Line::Heard(None))?;
+        return Ok(None);
+    };
+    console.port.keep(Line::Heard(Some(told_as(taken))))?;
+    if taken != DeviceHeard::Reply {
+        return Ok(None);
+    }
+    match read_reply(bytes.as_slice()) {
+        Some(reply) => Ok(Some(reply.response)),
+        None => Ok(None),
     }
 }
 

@@ -10,8 +10,8 @@ use crate::{DeviceInfo, Row, StatusCounts};
 use rdm_frame::Text;
 use std::alloc::AllocError;
 
-/// What stands in a column.
-pub(crate) fn put_words(text: &mut Vec<u8>, column: Column, row: &Row) -> Result<(), AllocError>
+/// Puts what stands in a column at the end of a text, of any width. What the fixture didn't tell is a hyphen.
+pub fn put_words(text: &mut Vec<u8>, column: Column, row: &Row) -> Result<(), AllocError>
     ensures { OnOk result (text.new.items ≡ text.old.items ++ words_in column row.now) }
 {
     match column {

@@ -10,18 +10,30 @@ use std::alloc::{AllocError, Global};
 
 /// A column of the table.
 #[derive(Clone, Copy)]
-pub(crate) enum Column {
+pub enum Column {
+    /// The UID, as `7FF0:00000001`.
     Uid,
+    /// Who made the fixture.
     Manufacturer,
+    /// What it is.
     Model,
+    /// What its owner calls it.
     Label,
+    /// The slots of its root, as `101-108`.
     Address,
+    /// How many slots its root takes.
     Footprint,
+    /// Its personality, as `2 of 3: Fine`.
     Personality,
+    /// What its software is called.
     Software,
+    /// How many sub-devices it has.
     SubDevices,
+    /// How many sensors it has.
     Sensors,
+    /// How many hours it has run.
     Hours,
+    /// Its status, as `2 errors, 1 warning`, or `ok`.
     Status,
 }
 
@@ -116,8 +128,8 @@ fn put_placed(text: &mut Vec<u8>, width: Option<usize>, words: &[u8]) -> Result<
     }
 }
 
-/// Words in so many characters and a space, cut if they are longer.
-fn put_fitted(text: &mut Vec<u8>, width: usize, words: &[u8]) -> Result<(), AllocError>
+/// Puts words at the end of a text, in so many characters and a space: cut, with a `~` at the end, if they are longer.
+pub fn put_fitted(text: &mut Vec<u8>, width: usize, words: &[u8]) -> Result<(), AllocError>
     ensures { OnOk result (text.new.items ≡ text.old.items ++ fitted width words.now) }
 {
     if words.len() > width {

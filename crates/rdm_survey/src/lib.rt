@@ -1,7 +1,8 @@
 //! What a survey of an RDM line says: which fixtures there are, and which of their slots clash.
 //!
 //! A `Row` is what is known of a fixture. `clashes` finds the slots that two of them take, `sort` puts them in order, `put_csv` and
-//! `put_json` write them as documents that are read back as what they say, and `put_heading` and `put_row` as a table.
+//! `put_json` write them as documents that are read back as what they say, and `put_heading` and `put_row` as a table. For other tables of
+//! fixtures there are `put_fitted`, `put_place` and `put_shown`.
 #![tactic(auto)]
 
 mod clashing;
@@ -19,7 +20,8 @@ mod row;
 mod shown;
 
 pub use clashing::clashes;
-pub use columns::{put_heading, put_row};
+pub use column_words::put_words;
+pub use columns::{Column, put_fitted, put_heading, put_row};
 pub use csv_text::{KEYS, put_csv};
 pub use device_info::DeviceInfo;
 pub use json_text::put_json;
@@ -28,5 +30,7 @@ pub use laws::{
     members_have_the_keys, places_meet_in_a_slot, shown_text_is_read_back,
 };
 pub use order::{Order, sort};
+pub use partner::put_place;
 pub use place::{Clash, Place};
 pub use row::{Row, StatusCounts, SubDevice};
+pub use shown::put_shown;

@@ -64,8 +64,9 @@ pub(crate) fn put_partner(text: &mut Vec<u8>, partner: Partner) -> Result<(), Al
     }
 }
 
-/// The UID, and what the sub-device has behind it.
-pub(crate) fn put_place(text: &mut Vec<u8>, uid: Uid, sub: u16) -> Result<(), AllocError>
+/// Puts the UID of a fixture at the end of a text, and behind it what the sub-device with a number has: a slash and its number, or nothing
+/// for 0, which is the root.
+pub fn put_place(text: &mut Vec<u8>, uid: Uid, sub: u16) -> Result<(), AllocError>
     ensures { OnOk result (text.new.items ≡ text.old.items ++ place_word uid sub) }
 {
     put_uid(text, uid)?;

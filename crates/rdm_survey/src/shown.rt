@@ -44,8 +44,9 @@ fn put_id(text: &mut Vec<u8>, bytes: &[u8]) -> Result<(), AllocError>
     put_digits(text, bytes)
 }
 
-/// A text of a fixture: printable ASCII as it is, but for a backslash, which stands twice, and another byte as `\x` and its digits.
-pub(crate) fn put_shown(text: &mut Vec<u8>, words: &[u8]) -> Result<(), AllocError>
+/// Puts a text of a fixture at the end of a text: printable ASCII as it is, but for a backslash, which stands twice, and another byte as
+/// `\x` and its digits.
+pub fn put_shown(text: &mut Vec<u8>, words: &[u8]) -> Result<(), AllocError>
     ensures { OnOk result (text.new.items ≡ text.old.items ++ shown words.now) }
 {
     for byte in words {

@@ -1,1 +1,4 @@
+pub mod Fetching
 pub mod Getting
+pub mod Numbers
+pub mod Questions

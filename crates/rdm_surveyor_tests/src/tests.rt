@@ -1,124 +1,14 @@
 //! Fixtures that answer by a list are surveyed. What they are asked, and what is told of it, was worked out by hand.
 
+use crate::fixture::{CONSOLE, Endless, FIXTURE, Fixture};
 use rdm_collector::{Port, PortError};
-use rdm_frame::digits::bytes_in;
-use rdm_frame::{Body, Frame, Text, Uid, Wire, decode_view, encode};
+use rdm_frame::{Text, Wire, decode_view};
 use rdm_survey::{Row, StatusCounts};
-use rdm_surveyor::{Report, SurveyFault, survey};
-use std::alloc::{AllocError, Global};
+use rdm_surveyor::{Report, SurveyFault, fetch_last_status, fetch_statuses, survey};
+use std::alloc::Global;
 use std::fmt::Write;
 use std::str;
 use std::test::Fail;
-
-const CONSOLE: Uid = Uid {
-    maker: 0x7FF0,
-    device: 2,
-};
-
-const FIXTURE: Uid = Uid {
-    maker: 0x7FF0,
-    device: 1,
-};
-
-const STATUS_MESSAGES: u16 = 0x0030;
-
-/// A fixture: what it answers to each parameter of the root and of its sub-devices, as the number of the device, the PID, the response
-/// type and the data; it rejects all others. And what it answers to STATUS_MESSAGES, one request after another: a response type, a class, a
-/// PID and data, or `-` for nothing. At the end of these it is silent.
-#[derive(Drop)]
-struct Fixture {
-    values: &'static [(u16, u16, u8, &'static str)],
-    statuses: &'static str,
-    /// Whether it answers all others by a NACK, or by nothing.
-    rejects: bool,
-    /// What it was asked: the PID, the sub-device if it isn't the root, and the data.
-    asked: String,
-}
-
-impl Port for Fixture {
-    ghost hears = { λ _ _ _ _. Unit {0} };
-
-    ghost fails = { λ _ _ _ _. Unit {0} };
-
-    fn exchange(&mut self, request: &Wire) -> Result<Option<Wire>, PortError> {
-        let Ok(frame) = decode_view(request.as_slice()) else {
-            return Err(PortError::Write);
-        };
-        if frame.class != 0x20 || frame.dst != FIXTURE || frame.src != CONSOLE {
-            return Err(PortError::Write);
-        }
-        if tell(&mut self.asked, frame.pid, frame.sub, frame.body).is_err() {
-            return Err(PortError::Write);
-        }
-        let (pid, sub, tn) = (frame.pid, frame.sub, frame.tn);
-        if pid == STATUS_MESSAGES {
-            let (reply, rest) = self.statuses.split_once(' ').unwrap_or((self.statuses, ""));
-            self.statuses = rest;
-            return Ok(status(tn, reply));
-        }
-        for (its_sub, its_pid, response_type, data) in self.values {
-            if *its_sub == sub && *its_pid == pid {
-                return Ok(reply(tn, sub, *response_type, 0x21, pid, data));
-            }
-        }
-        if !self.rejects {
-            return Ok(None);
-        }
-        let reason = if sub == 0 { "0000" } else { "0009" };
-        Ok(reply(tn, sub, 2, 0x21, pid, reason))
-    }
-}
-
-/// Tells what is asked.
-fn tell(asked: &mut String, pid: u16, sub: u16, data: &[u8]) -> Result<(), AllocError> {
-    write!(asked, "{pid:04X}")?;
-    if sub > 0 {
-        write!(asked, "/{sub}")?;
-    }
-    for byte in data {
-        write!(asked, "={byte}")?;
-    }
-    write!(asked, " ")
-}
-
-/// An answer to STATUS_MESSAGES.
-fn status(tn: u8, text: &str) -> Option<Wire> {
-    let bytes = text.as_bytes();
-    if bytes.len() > 510 {
-        return None;
-    }
-    let load = bytes_in(bytes)?;
-    let [response_type, class, high, low, data @ ..] = load.as_slice() else {
-        return None;
-    };
-    let pid = u16::from_be_bytes([*high, *low]);
-    framed(tn, 0, *response_type, *class, pid, data)
-}
-
-/// A reply with these data, in hexadecimal digits.
-fn reply(tn: u8, sub: u16, response_type: u8, class: u8, pid: u16, digits: &str) -> Option<Wire> {
-    let digits = digits.as_bytes();
-    if digits.len() > 510 {
-        return None;
-    }
-    let load = bytes_in(digits)?;
-    framed(tn, sub, response_type, class, pid, load.as_slice())
-}
-
-/// A reply.
-fn framed(tn: u8, sub: u16, response_type: u8, class: u8, pid: u16, data: &[u8]) -> Option<Wire> {
-    Some(encode(&Frame {
-        dst: CONSOLE,
-        src: FIXTURE,
-        tn,
-        port: response_type,
-        count: 0,
-        sub,
-        class,
-        pid,
-        body: Body::from_slice(data)?,
-    }))
-}
 
 /// DEVICE_INFO of a moving head: model 0011, category 0102, software 00000100, footprint 8, personality 2 of 3, start address 101, two
 /// sub-devices, two sensors.
@@ -350,6 +240,45 @@ fn status_messages_are_fetched_and_handed_on(rt: HostRuntime) -> Result<(), Fail
     Ok(())
 }
 
+#[test]
+fn the_status_of_a_fixture_is_fetched_alone(rt: HostRuntime) -> Result<(), Fail> {
+    let mut fixture = Fixture {
+        values: &[],
+        statuses: "00210030000004800100020000 00210030",
+        rejects: true,
+        asked: String::new(rt.alloc()),
+    };
+    let mut reports = Vec::new(rt.alloc());
+    let statuses = fetch_statuses(rt.alloc(), CONSOLE, FIXTURE, &mut fixture, &mut reports)?;
+    let mut text = String::new(rt.alloc());
+    put_counts(&mut text, statuses.counts)?;
+    assert_eq!(rt;
+        (text.as_str(), fixture.asked.as_str()),
+        ("1/0", "0030=3 0030=3 ")
+    );
+    assert_eq!(rt; (reports.len(), statuses.has_more), (1, false));
+    Ok(())
+}
+
+#[test]
+fn the_last_status_is_asked_for_again_once(rt: HostRuntime) -> Result<(), Fail> {
+    let mut fixture = Fixture {
+        values: &[],
+        statuses: "00210030000004800100020000 00210030",
+        rejects: true,
+        asked: String::new(rt.alloc()),
+    };
+    let mut reports = Vec::new(rt.alloc());
+    fetch_last_status(rt.alloc(), CONSOLE, FIXTURE, &mut fixture, &mut reports)?;
+    let mut text = String::new(rt.alloc());
+    put_reports(&mut text, reports.as_slice())?;
+    assert_eq!(rt;
+        (text.as_str(), fixture.asked.as_str()),
+        ("000004800100020000 again ", "0030=1 ")
+    );
+    Ok(())
+}
+
 /// Puts the status types that were asked for at the end of a text.
 fn put_asked(text: &mut String, asked: &str) -> Result<(), Fail> {
     for word in asked.split(' ') {
@@ -383,30 +312,6 @@ fn put_counts(text: &mut String, counts: Option<StatusCounts>) -> Result<(), Fai
         None => text.push_str("-")?,
     }
     Ok(())
-}
-
-/// A fixture that tells another error each time.
-#[derive(Drop)]
-struct Endless {
-    told: u8,
-}
-
-impl Port for Endless {
-    ghost hears = { λ _ _ _ _. Unit {0} };
-
-    ghost fails = { λ _ _ _ _. Unit {0} };
-
-    fn exchange(&mut self, request: &Wire) -> Result<Option<Wire>, PortError> {
-        let Ok(frame) = decode_view(request.as_slice()) else {
-            return Err(PortError::Write);
-        };
-        if frame.pid != STATUS_MESSAGES {
-            return Ok(framed(frame.tn, frame.sub, 2, 0x21, frame.pid, &[0, 0]));
-        }
-        self.told = self.told.wrapping_add(1);
-        let entry = [0, 0, 4, 0x80, self.told, 0, 0, 0, 0];
-        Ok(framed(frame.tn, 0, 0, 0x21, frame.pid, &entry))
-    }
 }
 
 #[test]

@@ -19,6 +19,8 @@ pub(crate) enum Form {
     Place,
     /// A text at its place.
     RequiredPlace,
+    /// One of these words at its place.
+    PlaceOf(&'static [&'static str]),
     /// Any number of words, also negative numbers.
     Words,
     /// `--ID`, without a value.
@@ -37,6 +39,15 @@ pub(crate) enum Form {
     Number32(u32, u32),
     /// `--ID WORD`, one of these.
     OneOf(&'static [&'static str]),
+}
+
+/// Where arguments may stand.
+#[derive(Clone, Copy, PartialEq, Eq)]
+pub(crate) enum Reach {
+    /// Behind the name of their own subcommand.
+    Own,
+    /// Also behind the name of each subcommand of that.
+    All,
 }
 
 /// Puts these subcommands at the end of a list: the name of each, what it does, and what it takes.
@@ -58,7 +69,7 @@ fn subcommand<'a>(
     about: &'static str,
     takes: &[Argument],
 ) -> Result<Command<'a>, AllocError> {
-    let arguments = arguments(alloc, takes)?;
+    let arguments = arguments(alloc, takes, Reach::Own)?;
     Command::new(alloc, name).about(about).args(arguments)
 }
 
@@ -66,9 +77,10 @@ fn subcommand<'a>(
 pub(crate) fn arguments<'a>(
     alloc: Global,
     arguments: &[Argument],
+    reach: Reach,
 ) -> Result<Vec<Arg<'a>>, AllocError> {
     let mut list = Vec::with_capacity(alloc, arguments.len())?;
-    push_arguments(alloc, arguments, &mut list)?;
+    push_arguments(alloc, arguments, reach, &mut list)?;
     Ok(list)
 }
 
@@ -76,10 +88,11 @@ pub(crate) fn arguments<'a>(
 fn push_arguments<'a>(
     alloc: Global,
     arguments: &[Argument],
+    reach: Reach,
     list: &mut Vec<Arg<'a>>,
 ) -> Result<(), AllocError> {
     for argument in arguments {
-        list.push(made(alloc, argument))?;
+        list.push(made(alloc, argument).global(reach == Reach::All))?;
     }
     Ok(())
 }
@@ -89,6 +102,7 @@ fn made<'a>(alloc: Global, argument: &Argument) -> Arg<'a> {
     match argument.form {
         Form::Place => place(alloc, argument),
         Form::RequiredPlace => place(alloc, argument).required(true),
+        Form::PlaceOf(words) => place(alloc, argument).required(true).value_parser(words),
         Form::Words => place(alloc, argument)
             .num_args(0..)
             .allow_negative_numbers(true),

@@ -1,9 +1,9 @@
 //! The command line of `felosumay line`.
 
-use crate::argument::{Argument, Form, arguments, push_subcommands};
+use crate::argument::{Argument, Form, Reach, arguments, push_subcommands};
 use crate::usage::{
-    BY, BY_ADDRESS, BY_LABEL, BY_MODEL, BY_UID, CSV, DATA, FIXTURE, FORMAT, IN_WORDS, JSON, LIMIT,
-    PARAMETER, PORT, SCRIPT, SUB, TABLE, TRACE, UID,
+    BY, BY_ADDRESS, BY_LABEL, BY_MODEL, BY_UID, CSV, DATA, FILE, FIXTURE, FORMAT, FROM, GAP, HTML,
+    IN_WORDS, JSON, LIMIT, OFF, ON, PARAMETER, PORT, SCRIPT, SUB, SWITCH, TABLE, TRACE, UID, YES,
 };
 use clap::Command;
 use std::alloc::{AllocError, Global};
@@ -12,7 +12,7 @@ use std::alloc::{AllocError, Global};
 const OF_LINE: &[Argument] = &[
     Argument {
         id: PORT,
-        form: Form::RequiredOption,
+        form: Form::Option,
         value: "PATH",
         help: "The serial device of the interface, set raw with min 0\ntime 1; standard input and output if -",
     },
@@ -36,11 +36,19 @@ const OF_LINE: &[Argument] = &[
     },
 ];
 
-const DEVICE: Argument = Argument {
+const DEVICES: Argument = Argument {
     id: UID,
     form: Form::RequiredPlace,
     value: "UID",
-    help: "The device, as 7FF0:00000001",
+    help: "The device, as 7FF0:00000001; several with commas\nbetween, or all",
+};
+
+/// Devices, all of them unless some are named.
+const ALL_DEVICES: Argument = Argument {
+    id: UID,
+    form: Form::Place,
+    value: "UID",
+    help: "The device, as 7FF0:00000001; several with commas\nbetween; all if omitted",
 };
 
 const OF_WHAT: Argument = Argument {
@@ -57,25 +65,60 @@ const WHERE: Argument = Argument {
     help: "The sub-device, as in a script; the root if omitted",
 };
 
+const ORDER: Argument = Argument {
+    id: BY,
+    form: Form::OneOf(&[BY_UID, BY_ADDRESS, BY_MODEL, BY_LABEL]),
+    value: "KEY",
+    help: "By what the devices are ordered; uid if omitted\n",
+};
+
+const CONSENT: Argument = Argument {
+    id: YES,
+    form: Form::Flag,
+    value: "",
+    help: "Set what is proposed",
+};
+
+/// The file of a survey, which is written or read.
+const KEPT: Argument = Argument {
+    id: FILE,
+    form: Form::RequiredPlace,
+    value: "FILE.json",
+    help: "The file of the survey",
+};
+
 /// What `felosumay line list` takes.
 const OF_LIST: &[Argument] = &[
-    Argument {
-        id: BY,
-        form: Form::OneOf(&[BY_UID, BY_ADDRESS, BY_MODEL, BY_LABEL]),
-        value: "KEY",
-        help: "By what the devices are ordered; uid if omitted\n",
-    },
+    ORDER,
     Argument {
         id: FORMAT,
-        form: Form::OneOf(&[TABLE, CSV, JSON]),
+        form: Form::OneOf(&[TABLE, CSV, JSON, HTML]),
         value: "FORMAT",
         help: "As what they are printed; table if omitted\n",
     },
 ];
 
+/// What `felosumay line address` takes.
+const OF_ADDRESS: &[Argument] = &[
+    Argument {
+        id: FROM,
+        form: Form::Number16(1, 512),
+        value: "SLOT",
+        help: "The first start address; 1 if omitted",
+    },
+    Argument {
+        id: GAP,
+        form: Form::Number16(0, 511),
+        value: "N",
+        help: "How many slots stay free between two devices; none if\nomitted",
+    },
+    ORDER,
+    CONSENT,
+];
+
 /// What `felosumay line get` takes.
 const OF_GET: &[Argument] = &[
-    DEVICE,
+    DEVICES,
     OF_WHAT,
     WHERE,
     Argument {
@@ -86,16 +129,39 @@ const OF_GET: &[Argument] = &[
     },
 ];
 
-/// What `felosumay line set` takes.
+/// What `felosumay line set` takes: a command, or a file of settings.
 const OF_SET: &[Argument] = &[
-    DEVICE,
-    OF_WHAT,
+    Argument {
+        form: Form::Place,
+        ..DEVICES
+    },
+    Argument {
+        form: Form::Place,
+        ..OF_WHAT
+    },
     WHERE,
     Argument {
         id: DATA,
         form: Form::Words,
         value: "DATA",
         help: "The data, a word for each field: a number, a name or\na text; none if omitted or -",
+    },
+    Argument {
+        id: FROM,
+        form: Form::Option,
+        value: "FILE.csv",
+        help: "Set what this file says, in place of one parameter",
+    },
+];
+
+/// What `felosumay line identify` takes.
+const OF_IDENTIFY: &[Argument] = &[
+    DEVICES,
+    Argument {
+        id: SWITCH,
+        form: Form::PlaceOf(&[ON, OFF]),
+        value: "SWITCH",
+        help: "Whether they identify themselves\n",
     },
 ];
 
@@ -119,16 +185,47 @@ const ERRANDS: &[(&str, &str, &[Argument])] = &[
         "List all devices, and where their slots clash",
         OF_LIST,
     ),
-    ("get", "Read a parameter of a device", OF_GET),
+    (
+        "address",
+        "Propose start addresses without overlaps, or set them",
+        OF_ADDRESS,
+    ),
+    ("get", "Read a parameter of devices", OF_GET),
     (
         "set",
-        "Set a parameter of a device, and wait for the result",
+        "Set a parameter of devices, and wait for the result",
         OF_SET,
     ),
     (
+        "identify",
+        "Have devices identify themselves, or no longer",
+        OF_IDENTIFY,
+    ),
+    (
+        "sensors",
+        "List the sensors of devices, and what they read",
+        &[ALL_DEVICES],
+    ),
+    (
+        "status",
+        "List what is wrong with devices, and what waits in them",
+        &[ALL_DEVICES],
+    ),
+    (
         "collect",
-        "Fetch all messages that wait in a device",
-        &[DEVICE],
+        "Fetch all messages that wait in devices",
+        &[DEVICES],
+    ),
+    ("save", "Keep a survey of all devices in a file", &[KEPT]),
+    (
+        "compare",
+        "Compare all devices with a survey that was kept",
+        &[KEPT],
+    ),
+    (
+        "restore",
+        "Propose what sets devices back to a survey, or set it",
+        &[KEPT, CONSENT],
     ),
     (
         "watch",
@@ -151,7 +248,7 @@ pub(crate) fn command<'a>(alloc: Global) -> Result<Command<'a>, AllocError> {
 
 /// The same, without its errands.
 fn with_arguments<'a>(alloc: Global) -> Result<Command<'a>, AllocError> {
-    let arguments = arguments(alloc, OF_LINE)?;
+    let arguments = arguments(alloc, OF_LINE, Reach::All)?;
     Command::new(alloc, "line")
         .about("Be a console on a real line, through an ENTTEC DMX USB Pro")
         .subcommand_required(true)

@@ -1,6 +1,7 @@
 //! The command line: its subcommands and what each takes.
 
 use crate::argument::{Argument, Form, push_subcommands};
+use clap::error::ErrorKind;
 use clap::{ArgMatches, Command, Error};
 use rdm_frame::standard::MOST_SUB_DEVICES;
 use std::alloc::{AllocError, Global};
@@ -63,6 +64,24 @@ pub const TABLE: &str = "table";
 pub const CSV: &str = "csv";
 /// A list as JSON.
 pub const JSON: &str = "json";
+/// A list as a page for a browser.
+pub const HTML: &str = "html";
+/// The option for where something comes from: the first start address, or a file.
+pub const FROM: &str = "from";
+/// The option for how many slots stay free between two devices.
+pub const GAP: &str = "gap";
+/// The option without which nothing is set that is proposed.
+pub const YES: &str = "yes";
+/// The argument that names the file of a survey.
+pub const FILE: &str = "file";
+/// The argument for whether a device identifies itself.
+pub const SWITCH: &str = "switch";
+/// A device identifies itself.
+pub const ON: &str = "on";
+/// It doesn't.
+pub const OFF: &str = "off";
+/// In place of a UID: all devices of the line.
+pub const ALL: &str = "all";
 
 /// How many fixtures there are on a line at most.
 pub const MOST_FIXTURES: u16 = 512;
@@ -227,7 +246,21 @@ const SUBCOMMANDS: &[(&str, &str, &[Argument])] = &[
 
 /// What the arguments ask for, the program's name first.
 pub fn matches<'a>(alloc: Global, words: &'a [String]) -> Result<ArgMatches<'a>, Error> {
-    command(alloc)?.try_get_matches_from(words)
+    let matches = command(alloc)?.try_get_matches_from(words)?;
+    match matches.subcommand() {
+        Some(("line", asked)) if asked.get_str(PORT).is_none() => Err(no_port(alloc)?),
+        _ => Ok(matches),
+    }
+}
+
+/// The error of a line without its port. An option that may also stand behind an errand can't be required by the parser.
+fn no_port(alloc: Global) -> Result<Error, AllocError> {
+    crate::line::command(alloc)?
+        .bin_name("felosumay line")?
+        .error(
+            ErrorKind::MissingRequiredArgument,
+            "the following required arguments were not provided:\n  --port <PATH>",
+        )
 }
 
 /// The program, with its subcommands.

@@ -1,0 +1,5 @@
+pub mod SavedTokens
+pub mod ReadBack
+pub mod Comparing
+pub mod RoundTrip
+pub mod Restoring

@@ -1,0 +1,9 @@
+pub mod Differences
+pub mod Fields
+pub mod Keeping
+pub mod Laws
+pub mod Lines
+pub mod Reading
+pub mod Remedies
+pub mod Saving
+pub mod Texts

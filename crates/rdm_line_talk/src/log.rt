@@ -1,0 +1,157 @@
+//! The trace of what a console sends and hears.
+
+use crate::knowledge::Knowledge;
+use crate::telling::Teller;
+use rdm_frame::Uid;
+use rdm_host::fault::Fault;
+use rdm_host::host::Speaker;
+use rdm_trace::{Line, put_line};
+use rdm_words::{Before, put_line_words};
+use std::io::Write;
+use std::time::Instant;
+
+/// A file for a trace, and its name.
+#[derive(Drop)]
+pub struct TraceFile<'a, F> {
+    /// By what name messages tell of it.
+    pub path: &'a str,
+    /// The file.
+    pub file: F,
+}
+
+/// As what a trace is printed.
+#[derive(Clone, Copy, PartialEq, Eq)]
+pub enum Printed {
+    /// It isn't.
+    Nothing,
+    /// As a trace.
+    Trace,
+    /// In words, by what is known of the fixture with this UID.
+    Words(Uid),
+}
+
+/// The trace of what is sent and heard, with the time of each request: in a file, if one is asked for, and printed, if a script is
+/// played. It is written as it comes, so that nothing of it is lost when the program is ended.
+#[derive(Drop)]
+pub struct Log<'a, H, F> {
+    /// What is known of the fixtures that are heard.
+    pub knowledge: Knowledge,
+    teller: Teller<H>,
+    kept_in: Option<TraceFile<'a, F>>,
+    printed: Printed,
+    /// When the first request was sent.
+    start: Option<Instant>,
+    /// What the lines that were printed told, for the words of the next.
+    before: Before,
+    /// Why it isn't kept any more.
+    fault: Option<Fault<'a>>,
+}
+
+/// A trace isn't kept. The log has its fault.
+#[derive(Drop)]
+pub struct NotKept;
+
+impl<'a, H: Speaker, F: Write> Log<'a, H, F> {
+    /// One in this file, if there is one.
+    pub fn new(
+        teller: Teller<H>,
+        kept_in: Option<TraceFile<'a, F>>,
+        knowledge: Knowledge,
+    ) -> Log<'a, H, F> {
+        Log {
+            knowledge,
+            teller,
+            kept_in,
+            printed: Printed::Nothing,
+            start: None,
+            before: Before::nothing(),
+            fault: None,
+        }
+    }
+
+    /// Prints it so from now on.
+    pub fn print_as(&mut self, printed: Printed) {
+        self.printed = printed;
+    }
+
+    /// Keeps a line.
+    pub fn keep(&mut self, line: &Line) -> Result<(), NotKept> {
+        match self.write(line) {
+            Ok(()) => Ok(()),
+            Err(fault) => self.fail(fault),
+        }
+    }
+
+    /// Keeps the time since the first request, if a trace is kept or printed: it is that of what comes next.
+    pub fn keep_time(&mut self) -> Result<(), NotKept> {
+        if self.kept_in.is_none() && self.printed == Printed::Nothing {
+            return Ok(());
+        }
+        match self.millis() {
+            Ok(millis) => self.keep(&Line::Time { millis }),
+            Err(fault) => self.fail(fault),
+        }
+    }
+
+    /// Why it isn't kept, if it isn't.
+    pub fn into_fault(self) -> Option<Fault<'a>>
+    where
+        F: Drop,
+    {
+        self.fault
+    }
+
+    /// Writes a line to where the trace is kept, and prints it.
+    fn write(&mut self, line: &Line) -> Result<(), Fault<'a>> {
+        let mut text = Vec::new(self.teller.rt().alloc());
+        put_line(&mut text, line)?;
+        if let Some(kept_in) = &mut self.kept_in {
+            if let Err(error) = kept_in.file.write_all(text.as_slice()) {
+                return Err(Fault::Io(kept_in.path, error));
+            }
+        }
+        match self.printed {
+            Printed::Nothing => Ok(()),
+            Printed::Trace => self.teller.tell(text.as_slice()),
+            Printed::Words(uid) => self.print_words(line, uid),
+        }
+    }
+
+    /// Prints the words of a line, by what is known of the fixture with this UID.
+    fn print_words(&mut self, line: &Line, uid: Uid) -> Result<(), Fault<'a>> {
+        let mut words = Vec::new(self.teller.rt().alloc());
+        put_line_words(&mut words, &self.before, line, &self.knowledge.of(uid))?;
+        self.before.then(line);
+        self.teller.tell(words.as_slice())
+    }
+
+    /// How many milliseconds have passed since the first request, which is this one if there was none.
+    fn millis(&mut self) -> Result<u64, Fault<'a>> {
+        let rt = self.teller.rt();
+        let passed = match self.start {
+            Some(start) => start.elapsed(&rt),
+            None => return self.begin(),
+        };
+        match passed {
+            Ok(passed) => Ok(u64::try_from(passed.as_millis()).unwrap_or(u64::MAX)),
+            Err(error) => Err(Fault::Clock(error)),
+        }
+    }
+
+    /// The times begin now.
+    fn begin(&mut self) -> Result<u64, Fault<'a>> {
+        match Instant::now(&self.teller.rt()) {
+            Ok(now) => {
+                self.start = Some(now);
+                Ok(0)
+            }
+            Err(error) => Err(Fault::Clock(error)),
+        }
+    }
+
+    /// It isn't kept, for this reason.
+    fn fail(&mut self, fault: Fault<'a>) -> Result<(), NotKept> {
+        self.fault = Some(fault);
+        Err(NotKept)
+    }
+}

@@ -1,0 +1,16 @@
+use Rattle.std.proofs.Common.{arith, sym, ◌+◌, drop}
+use Rattle.std.proofs.lemmas.List.{take_all, length-drop}
+use Rattle.rdm_settings.proofs.Pieces.{lines_go_on, lines_end}
+use Rattle.rdm_settings.proofs.line.lines_of.Goals as goal
+
+pub loop-end-preserved : goal.loop-end-preserved
+loop-end-preserved c =
+    let rest = c.loop-end.rest.now in
+    let behind = c.in-Some.end + 1 in
+    record {
+      told = lines_go_on _ _ _ rest _ c.in-Some.end (sym c.in-Some.ensures.end) (take_all _ (drop behind rest) (omega (arith, length-drop behind rest))) c.in_ok-put_line.ensures c.loop-end.invariant.told;
+      room = omega (arith, length-drop behind rest);
+    }
+
+pub returns : goal.returns
+returns c = lines_end _ _ _ c.loop-end.rest.now (sym c.in_default.ensures.end) c.in_ok-put_line-2.ensures c.loop-end.invariant.told

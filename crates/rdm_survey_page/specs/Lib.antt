@@ -1,0 +1,4 @@
+pub mod Escaping
+pub mod Clashes
+pub mod Pages
+pub mod Outlines
