@@ -73,6 +73,10 @@ class Place:
                 self.answers[f.name] = {answered}
         readme_first = lambda f: (not f.is_test, f.file.name != "readme.rt")
         self.functions.sort(key=readme_first)
+        # In a crate of tests for several libraries: the functions of each module that has the name of one.
+        self.modules = {}
+        for f in self.functions:
+            self.modules.setdefault(f.file.relative_to(sources.root_of(crate)).with_suffix("").parts[0], []).append(f)
 
     def imports_from(self, file, crate, name):
         """Whether a file imports this name of the crate, from itself or from a crate that passes it on."""
@@ -81,8 +85,9 @@ class Place:
         )
 
     def find(self, f, uses):
-        """The first function here that calls `f`, with the lines of the call, or none."""
-        for caller in self.functions:
+        """The first function here that calls `f`, with the lines of the call, or none. Those of the module of its crate come first."""
+        own = self.modules.get("tests" if self.crate == f"{f.crate}_tests" else f.crate.removeprefix("rdm_"), [])
+        for caller in [*own, *self.functions]:
             text = "\n".join(caller.body)
             if f.name not in text:
                 continue

@@ -60,6 +60,14 @@ def libraries():
     return [c for c in dependencies() if not c.endswith("_tests") and (root_of(c) / "lib.rt").exists()]
 
 
+def tests_of(crate):
+    """The crate that has the tests of a library: NAME_tests, or one for several libraries, in which a module has the name without `rdm_`."""
+    if (TOP / "crates" / f"{crate}_tests").is_dir():
+        return f"{crate}_tests"
+    module = crate.removeprefix("rdm_") + ".rt"
+    return next((name for name in dependencies() if name.endswith("_tests") and (root_of(name) / module).exists()), None)
+
+
 def root_of(crate):
     return TOP / "crates" / crate / "src"
 

@@ -1,14 +1,14 @@
 /* Felosumay: a responder, a collector and discovery for Remote Device Management (ANSI E1.20-2010).
  *
- * A handle starts as {0}. It belongs to the library from then on: never copy it, and never look behind its pointer or write
- * it. Pointers must be valid, and no two of one call may overlap; the bytes that a call reads or writes may be NULL if their
- * length is 0. Bytes that it only reads may be constant, and in another call at the same time. Each handle may be in one call at a
- * time, on any thread, so a mutex may hand a handle from thread to thread; that holds of a const handle too, which holds the same
- * after the call as before. These are the only preconditions: all else is tested, and the result says so. If a call isn't DONE, what
- * stands behind its other pointers has no meaning, unless the call says more.
+ * A handle starts as {0}. It belongs to the library from then on: never copy it, and never look behind its pointer or write it. Pointers
+ * must be valid, and no two of one call may overlap; the bytes that a call reads or writes may be NULL if their length is 0. Bytes that
+ * it only reads may be constant, and in another call at the same time. Each handle may be in one call at a time, on any thread, so a
+ * mutex may hand a handle from thread to thread; this includes const handles, which a call leaves unchanged. These are the only
+ * preconditions: everything else is tested and reported in the result. If a call isn't DONE, what its other pointers point to is
+ * meaningless, unless stated otherwise.
  *
- * Words of the trade and the calls: a device receives bytes by `step`, and a job is done by `arrive`; a controller receives bytes
- * by `hear`, and `over` is its timeout.
+ * The calls: a device receives bytes with `step`, and reports a finished job with `arrive`; a controller receives bytes with
+ * `hear`, and reports a timeout with `over`.
  *
  * felosumay_names.h has the numbers of the standard by name. felosumay.hpp has the same library for C++.
  * docs/PORTS.md lists the processors that the library runs on. This header is the same for all of them. */
@@ -17,7 +17,7 @@
 #include <stddef.h>
 #include <stdint.h>
 
-/* Each struct has the same places and the same size on each target, whether its pointers have 32 or 64 bits: counts are 64-bit numbers,
+/* Each struct has the same layout and size on every target, whether its pointers have 32 or 64 bits: counts are 64-bit numbers,
  * and a pointer takes 8 bytes. The assertions at the end stop a compiler that lays them out otherwise. */
 #if defined __cplusplus
 #define FELOSUMAY_WIDE alignas(8)
@@ -58,7 +58,7 @@ enum {
     FELOSUMAY_BAD_UID = 4,       /* the UID addresses more than one device */
     FELOSUMAY_ABSENT = 5,        /* the handle holds nothing that the call is for */
     FELOSUMAY_ASTRAY = 6,        /* the job isn't the oldest one of its worker, or its outcome doesn't fit */
-    FELOSUMAY_UNKNOWN = 7,       /* a number that was passed in isn't a defined one */
+    FELOSUMAY_UNKNOWN = 7,       /* an argument has an undefined value */
     FELOSUMAY_REFUSED = 8,       /* the command is rejected, and a reason is given */
     FELOSUMAY_NO_VALUE = 9,      /* the command doesn't answer with a value */
     FELOSUMAY_RESERVED = 10,     /* QUEUED_MESSAGE and STATUS_MESSAGES are the collector's own */
@@ -67,16 +67,16 @@ enum {
     FELOSUMAY_NO_MORE = 13,      /* there are no more */
     FELOSUMAY_NO_ROOM = 14,      /* there is no room for one more message */
     FELOSUMAY_OUT_OF_RANGE = 15, /* the value is out of range, or there is no such sensor */
-    FELOSUMAY_LIMIT = 16,        /* the search took as many transactions as it may */
+    FELOSUMAY_LIMIT = 16,        /* the search reached its limit of transactions */
     FELOSUMAY_NO_DEVICE = 17,    /* there is no such sub-device */
     FELOSUMAY_NOT_STORED = 18,   /* the device stores no value of the parameter */
-    FELOSUMAY_BAD_LENGTH = 19,   /* the data have another length than the value */
+    FELOSUMAY_BAD_LENGTH = 19,   /* the data don't have the length of the value */
     FELOSUMAY_SHORT_IMAGE = 20,  /* there is no room for the image */
-    FELOSUMAY_IMAGE_LENGTH = 21, /* the image has another length than one of these values: it is cut, or of other devices */
-    FELOSUMAY_ALTERED_IMAGE = 22, /* the image is altered, or it is none */
+    FELOSUMAY_IMAGE_LENGTH = 21, /* the image has the wrong length for these values: it is truncated, or from other devices */
+    FELOSUMAY_ALTERED_IMAGE = 22, /* the image is altered, or isn't an image */
     FELOSUMAY_FOREIGN_IMAGE = 23, /* the image is of another profile */
     FELOSUMAY_NO_REPLY = 24,      /* the bytes aren't a response */
-    FELOSUMAY_IN_USE = 25,        /* another responder lies in the memory */
+    FELOSUMAY_IN_USE = 25,        /* another responder occupies the memory */
     FELOSUMAY_UNALIGNED = 26,     /* the memory doesn't begin at a multiple of 16 */
     FELOSUMAY_SHORT_MEMORY = 27   /* there is too little memory for the responder */
 };
@@ -89,11 +89,11 @@ enum {
 /* Command classes. */
 enum { FELOSUMAY_DISCOVERY = 0x10, FELOSUMAY_GET = 0x20, FELOSUMAY_SET = 0x30 };
 
-/* ---- what a responder is made with: a count that is greater than its array stands for the whole array */
+/* ---- what a responder is made from: a count larger than its array means the whole array */
 
 typedef struct {
     uint8_t count;     /* how many bytes the text has: 0 to 32 */
-    uint8_t bytes[32]; /* any bytes, as a rule ASCII; those behind the text have no meaning */
+    uint8_t bytes[32]; /* any bytes, normally ASCII; those after the text are ignored */
 } felosumay_text;
 
 /* felosumay_text name = FELOSUMAY_TEXT("Moving head"); at most 31 letters */
@@ -106,7 +106,7 @@ typedef struct {
 
 /* What a DMX512 slot is for (E1.20 sections 10.6.4 to 10.6.6). */
 typedef struct {
-    uint16_t label; /* of a primary slot its label, FELOSUMAY_SD_..; of a secondary one the slot that it belongs to, from 0 */
+    uint16_t label; /* the label of a primary slot, FELOSUMAY_SD_..; for a secondary slot, its primary slot, from 0 */
     uint8_t kind;   /* the slot type, FELOSUMAY_ST_.. */
     uint8_t value;  /* the DMX512 level if none is received: 0 to 255 */
     felosumay_text name;
@@ -148,7 +148,7 @@ enum {
     FELOSUMAY_DS_UNSIGNED_DWORD = 0x07,
     FELOSUMAY_DS_SIGNED_DWORD = 0x08,
     /* None of table A-15: of parameters of E1.37-1, which PARAMETER_DESCRIPTION doesn't describe. */
-    FELOSUMAY_DS_CHOICE = 0xF0, /* the number of one of several things, from low, which is 1, to high; its GET has high behind */
+    FELOSUMAY_DS_CHOICE = 0xF0, /* the number of an item, from low (1) to high; the GET reply has high after it */
     FELOSUMAY_DS_NAMES = 0xF1,  /* no data: the names of the options of the choice whose PID is the one before */
     FELOSUMAY_DS_RATES = 0xF2,  /* the same, with a frequency of each */
     FELOSUMAY_DS_SCENES = 0xF3, /* the times of scenes 1 to high; those up to low can only be read (PRESET_STATUS); starts empty */
@@ -258,7 +258,7 @@ typedef struct {
     felosumay_sensor sensors[8];
     felosumay_self_test tests[8];
     felosumay_status_text status_texts[8];
-    uint16_t more_slots; /* how many DMX512 slots the root has beside those of `slots`, which nothing describes: 0 to 512 */
+    uint16_t more_slots; /* how many DMX512 slots the root has that `slots` doesn't describe: 0 to 512 */
     /* What lies outside: `new` reads it once, and it may be NULL if there is none. */
     FELOSUMAY_WIDE const felosumay_parameter *parameters; /* the maker's own, by ascending PID */
     uint64_t parameter_count;                /* 0 to 32 */
@@ -286,7 +286,7 @@ enum {
     FELOSUMAY_FAULT_TWIN_TESTS = 9,    /* no two self tests have the same number */
     FELOSUMAY_FAULT_TWIN_TEXTS = 10,   /* no two status texts have the same ID */
     FELOSUMAY_FAULT_LEFT_OUT = 11, /* without_count is at most 36, and each of `without` is a parameter that a device may lack */
-    FELOSUMAY_FAULT_LEFT_OUT_NEEDED = 12,   /* whoever leaves out a parameter leaves out those that need it */
+    FELOSUMAY_FAULT_LEFT_OUT_NEEDED = 12,   /* a profile that omits a parameter omits those that need it */
     FELOSUMAY_FAULT_PARAMETER_COUNT = 13,   /* parameter_count is at most 32 */
     FELOSUMAY_FAULT_PARAMETER_PID = 14,     /* each has a PID that is free for it, and no two the same */
     FELOSUMAY_FAULT_PARAMETER_LIMITS = 15,  /* kind and commands are of those above; size is at most 32; low and high fit, in order */
@@ -300,12 +300,12 @@ enum {
     FELOSUMAY_FAULT_PARAMETER_LOCKED = 23   /* each lock is of a parameter that the root sets at once, and not of LOCK_STATE */
 };
 
-/* Which rule the profile breaks: the first of them, or NO_FAULT, and then `new` doesn't call it a BAD_PROFILE. */
+/* The first rule that the profile breaks, or NO_FAULT; then `new` doesn't return BAD_PROFILE. */
 static inline uint8_t felosumay_profile_fault(const felosumay_profile *profile);
 
 /* ---- the responder */
 
-/* A slow command that was accepted. Keep it until it has ended, and hand it back with the outcome. */
+/* An accepted slow command. Keep it until it has ended, and pass it back with the outcome. */
 typedef struct {
     uint32_t number;   /* counts the jobs of its worker, from the first number of the responder; 0 comes after the greatest */
     uint16_t estimate; /* tenths of a second, as ACK_TIMER says to the controller */
@@ -372,8 +372,7 @@ felosumay_result felosumay_responder_demo(felosumay_responder *responder, uint16
  * unusual `estimates`; FELOSUMAY_OWN_PARAMETERS_BYTES of the number of its parameters; FELOSUMAY_VALUES_BYTES of how many of them are
  * orders, and how many scenes PRESET_STATUS has; FELOSUMAY_CHOICES_BYTES and FELOSUMAY_LOCKS_BYTES of those numbers.
  * `fits` says whether a responder of this size has room in so many bytes of memory from this address on, as
- * felosumay_memory.h makes one: UNALIGNED, SHORT_MEMORY, in this order. Any sizes are reckoned with, and it is `new` that
- * calls one a BAD_SIZE. */
+ * felosumay_memory.h makes one: UNALIGNED, SHORT_MEMORY, in this order. Any sizes are calculated; `new` rejects a BAD_SIZE. */
 uint64_t felosumay_responder_size(uint16_t queue_size, uint16_t entries, uint16_t sub_devices);
 felosumay_result felosumay_responder_fits(uint64_t address, uint64_t bytes, uint16_t queue_size, uint16_t entries,
                                           uint16_t sub_devices);
@@ -387,7 +386,7 @@ felosumay_result felosumay_responder_fits(uint64_t address, uint64_t bytes, uint
     (FELOSUMAY_ROUNDED(5856) + FELOSUMAY_ROUNDED(56 * (uint64_t)(sub_devices)) + 2 * FELOSUMAY_ROUNDED(12 * (uint64_t)(queue_size)) + \
      FELOSUMAY_ROUNDED(248 * (uint64_t)(queue_size)) + FELOSUMAY_ROUNDED(9 * (uint64_t)(entries)))
 
-/* Hears bytes. If there is a reply, it stands at the front of `reply`; the answer to discovery is a reply like any other,
+/* Takes received bytes. If there is a reply, it is at the front of `reply`; the answer to discovery is a reply like any other,
  * and has no break before it. What stands behind the reply has no meaning. ABSENT: `replied`, `started` and
  * `changed` are 0 then. */
 static inline felosumay_result felosumay_responder_step(felosumay_responder *responder, const uint8_t *bytes, uint64_t length,
@@ -443,8 +442,8 @@ felosumay_result felosumay_responder_saved_size(const felosumay_responder *respo
 felosumay_result felosumay_responder_save(const felosumay_responder *responder, uint8_t *image, uint64_t size, uint64_t *count);
 static inline felosumay_result felosumay_responder_restore(felosumay_responder *responder, const uint8_t *image, uint64_t length);
 
-/* The firmware warns: it has a status entry of its own, such as a fan that stands still, of the root (`sub` 0) or of a
- * sub-device, 1 to 512. A controller is shown it once, by STATUS_MESSAGES (E1.20 section 10.3.2). `severity` is the status type
+/* The firmware reports a problem, such as a blocked fan, as a status entry of the root (`sub` 0) or of a
+ * sub-device, 1 to 512. A controller gets it once, with STATUS_MESSAGES (E1.20 section 10.3.2). `severity` is the status type
  * (table A-4): 0x02 advisory, 0x03 warning, 0x04 error; 0x12, 0x13, 0x14 when that is over. `id` is the status ID, which the
  * profile's status texts explain (section 10.3.3), and `v1` and `v2` are the values that its text names, in its units, or 0.
  * `noted` is 1 if the entry is kept, else 0: it is if the device is there, its threshold isn't 0x00 nor above the entry (section
@@ -468,12 +467,12 @@ felosumay_result felosumay_responder_own_value(const felosumay_responder *respon
 felosumay_result felosumay_responder_waiting(const felosumay_responder *responder, uint64_t *count);
 felosumay_result felosumay_responder_outstanding(const felosumay_responder *responder, uint64_t *count);
 
-/* Gives up what the handle holds, if anything. The handle is {0} again. NULL is no handle, and nothing happens then. */
+/* Frees what the handle holds, if anything, and sets the handle to {0}. NULL is allowed and does nothing. */
 void felosumay_responder_free(felosumay_responder *responder);
 
-/* ---- the receiver: it cuts packets and levels out of what a UART hears */
+/* ---- the receiver: it extracts packets and levels from what a UART receives */
 
-/* It takes no other memory, and starts as {0}: nothing was heard. Never write it; of its fields a program reads `packet` alone. It may
+/* It needs no other memory, and starts as {0}. Never write it; read only its field `packet`. It may
  * be copied, and then both have heard the same. */
 typedef struct {
     uint16_t count;
@@ -488,14 +487,14 @@ enum {
     FELOSUMAY_RECEIVED_LEVEL = 2    /* a level of DMX512: the byte is that of slot `number`, 1 to 512 */
 };
 
-/* Each of these hears one thing, in the order in which the UART tells it: a break; a byte; or that a byte didn't come whole, by a
- * framing error that is no break, or was lost, by an overrun. They take the same few steps each time, and allocate nothing: call them
+/* Pass in each signal in the order in which the UART reports it: a break; a byte; or an error, which is a framing error other than a
+ * break, or an overrun. They take the same few steps each time, and allocate nothing: call them
  * where the UART interrupts. docs/FIXTURES.md shows how, and says when a reply is due.
  *
- * A packet is told with its last byte. It is what has come since the break, not one byte more or less: CC, 01, a message length of at
+ * A packet is reported with its last byte. It is exactly what came since the break: CC, 01, a message length of at
  * least 24, and as many bytes as that says with the 2 of the checksum (E1.20 sections 6.2.1 to 6.2.3 and 6.2.11). Hand it to
  * `felosumay_responder_step`, which tests the rest: a packet with a wrong checksum is told too, and isn't answered. A level is told of
- * each slot behind a break and 00, at once; nothing is kept of it. All else tells nothing: other START codes, the answers to discovery,
+ * each slot behind a break and 00, at once; nothing is kept of it. Nothing else is reported: other START codes, the answers to discovery,
  * which have no break before them, bytes behind the end of a packet or behind slot 512, and after an error whatever comes up to the next
  * break. */
 void felosumay_receiver_break(felosumay_receiver *receiver);
@@ -620,7 +619,7 @@ felosumay_result felosumay_collector_over(felosumay_collector *collector);
  * is 1, the message is unsure, since a part may be missing. ABSENT, NO_MORE, in this order; nothing changes then. */
 felosumay_result felosumay_collector_next(felosumay_collector *collector, felosumay_message *message);
 
-/* Gives up what the handle holds, if anything. The handle is {0} again. NULL is no handle, and nothing happens then. */
+/* Frees what the handle holds, if anything, and sets the handle to {0}. NULL is allowed and does nothing. */
 void felosumay_collector_free(felosumay_collector *collector);
 
 /* ---- the search for the fixtures of a line */
@@ -661,19 +660,19 @@ felosumay_result felosumay_search_count(const felosumay_search *search, uint64_t
 /* The fixture with this index, from 0, in the order in which they were found. ABSENT; NO_MORE if no more were found. */
 felosumay_result felosumay_search_found(const felosumay_search *search, uint64_t index, felosumay_found *found);
 
-/* The device with this index, from 0, among those that sounded after each of 9 mutes, though no answer was valid: its UID, and 0 in the
+/* The device with this index, from 0, among those whose answers to all of 9 mutes were invalid: its UID, and 0 in the
  * other fields. One that isn't among those that were found is muted, it may be: on a better line a search made anew finds it. ABSENT;
  * NO_MORE if there are no more. */
 felosumay_result felosumay_search_unsure(const felosumay_search *search, uint64_t index, felosumay_found *unsure);
 
-/* Gives up what the handle holds, if anything. The handle is {0} again. NULL is no handle, and nothing happens then. */
+/* Frees what the handle holds, if anything, and sets the handle to {0}. NULL is allowed and does nothing. */
 void felosumay_search_free(felosumay_search *search);
 
 /* ---- how nothing is passed. The library takes no NULL for what it reads, even if the length is 0. So each call above that reads
  * bytes, or the lists of a profile, is an inline function over one of the library's, whose name ends in `_nonnull`: if the length
  * is 0, it passes the address of something in the place of what came. Other languages call those, and pass a valid address too. */
 
-/* The address of so many things. If there are none, it is that of something else, and never NULL. */
+/* The address of an array, or a valid dummy address if `count` is 0; never NULL. */
 static inline const void *felosumay_address(const void *things, uint64_t count) {
     static const uint64_t something = 0;
     return count == 0 ? &something : things;

@@ -25,13 +25,12 @@ extern "C" {
  *
  *     FELOSUMAY_ALIGNED static uint8_t memory[FELOSUMAY_RESPONDER_BYTES(8, 64, 0)];
  *
- * A profile that has what few have needs more: felosumay.h says there which of FELOSUMAY_PARTICULARS_BYTES,
+ * A profile with unusual features needs more: felosumay.h says which of FELOSUMAY_PARTICULARS_BYTES,
  * FELOSUMAY_OWN_PARAMETERS_BYTES, FELOSUMAY_VALUES_BYTES, FELOSUMAY_CHOICES_BYTES and FELOSUMAY_LOCKS_BYTES to add.
  *
  * UNALIGNED; SHORT_MEMORY, if there are fewer bytes than FELOSUMAY_RESPONDER_BYTES of these sizes and the profile's sub-devices;
- * IN_USE, if a responder lies in some of it; and then as `new_with`, in this order, where OUT_OF_MEMORY says that what few profiles have
- * lacks room. If it isn't DONE, the handle stays as it was, and
- * the memory is the program's again. */
+ * IN_USE, if a responder lies in some of it; and then as `new_with`, in this order, where OUT_OF_MEMORY means that there is no room for
+ * the profile's unusual features. If it isn't DONE, the handle stays as it was, and the memory is the program's again. */
 felosumay_result felosumay_responder_new_in(void *memory, uint64_t bytes, felosumay_responder *responder, uint16_t maker, uint32_t device,
                                             const felosumay_profile *profile, uint16_t queue_size, uint16_t entries, uint32_t first_job);
 
@@ -47,7 +46,7 @@ FELOSUMAY_ASSERT(sizeof(felosumay_arena) == 32);
 /* All arenas in use, and the one whose responder is made, or NULL. */
 static felosumay_arena *felosumay_arenas, *felosumay_open_arena;
 
-/* What a block that isn't there points to: no pointer is NULL. */
+/* The address of an empty block: no pointer is NULL. */
 static felosumay_block felosumay_no_block(void) {
     static char nothing[1];
     felosumay_block block = {0, nothing};

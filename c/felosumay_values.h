@@ -14,7 +14,7 @@ extern "C" {
 
 enum { FELOSUMAY_TEXT_ROOM = 33 };
 
-/* A GET without data that is answered with so many bytes at most, right-aligned in a number. */
+/* A GET without data, whose value of at most `bytes` bytes is returned as a number. */
 static inline felosumay_result felosumay_get_number(const felosumay_responder *responder, uint16_t sub, uint16_t pid, uint64_t bytes,
                                                     uint32_t *number) {
     uint8_t value[FELOSUMAY_VALUE_BYTES];

@@ -1,4 +1,4 @@
-/* What the fixture is: a moving head with two cells, that of docs/DEMO.md. It lies in flash. */
+/* What the fixture is: a moving head with two cells, that of docs/PARAMETERS.md. It lies in flash. */
 #include "fixture.h"
 
 const felosumay_profile PROFILE = {

@@ -17,6 +17,7 @@ import termios
 import time
 
 from line import Fault, end_within, new_room, started
+from surveyed import Survey
 
 PROGRAM = sys.argv[1]
 HERE = pathlib.Path(__file__).resolve().parent
@@ -236,6 +237,7 @@ def play(name, command, check_more, is_writing):
 
 def check_more_of_olas(console, devices):
     """What is asked of OLA's responders besides."""
+    Survey(console, devices).check()
     check_slow(console, next(device.uid for device in devices if "Ack Timer" in device.found))
     check_watched(console, devices)
 

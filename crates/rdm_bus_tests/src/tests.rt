@@ -92,7 +92,7 @@ fn hears(rt: &impl Abort, fault: Fault, heard: Option<Wire>, expected: Option<&[
         Some(wire) => Some(wire.as_slice()),
         None => None,
     };
-    assert_eq!(rt; heard, expected, "{fault:?}");
+    assert!(rt; heard == expected, "{fault:?}");
 }
 
 #[test]

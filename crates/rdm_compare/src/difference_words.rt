@@ -3,9 +3,10 @@
 ghost use Rattle.std.specs.Prelude.{◌≡◌, ◌++◌, OnOk};
 ghost use Rattle.rdm_compare.specs.Lines.{change_words, changed_words, difference_line, both_words, difference_words, hours_more, hours_word, model_word, more_hours, name_of, name_words, number_word, part_word, quoted, told_word};
 
-use crate::words::{put_id, put_number, put_shown};
+use crate::words::{put_id, put_number};
 use crate::{Difference, Field, Told};
 use rdm_frame::{Text, Uid};
+use rdm_survey::put_shown;
 use std::alloc::AllocError;
 
 /// Puts a line that says a difference at the end of a text: `7FF0:00000001 is gone`, `7FF0:00000002 is new: "LED PAR"`,

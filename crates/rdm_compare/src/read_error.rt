@@ -32,7 +32,7 @@ pub enum ReadError {
     #[error("fixture {0} has a wrong value for sub_devices")]
     WrongSubDevices(usize),
     /// A UID stands twice.
-    #[error("{0} is there twice")]
+    #[error("{0} appears twice")]
     Twice(Uid),
 }
 

@@ -15,11 +15,10 @@ ghost use Rattle.rdm_compare.specs.Saving.{field_list, fixtures_json, fixtures_m
 use crate::difference_words::put_number_of;
 use crate::field::FIELDS;
 use crate::kept::keep;
-use crate::words::put_shown;
 use crate::{Field, Kept, Told};
 use json::Writer;
 use rdm_frame::Uid;
-use rdm_survey::{Row, SubDevice};
+use rdm_survey::{Row, SubDevice, put_shown};
 use std::alloc::{AllocError, Global};
 use std::str;
 

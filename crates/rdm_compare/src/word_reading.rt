@@ -6,10 +6,10 @@ ghost use Rattle.json.specs.Value.{value_view};
 ghost use Rattle.rdm_survey.specs.Shown.{code_of, unshown};
 ghost use Rattle.rdm_compare.specs.Texts.{id_in, json_id, json_number, json_text, text_in, whole_number};
 
-use crate::words::put_shown;
 use json::Value;
 use rdm_frame::Text;
 use rdm_frame::digits::{bytes_in, long_in, word_in};
+use rdm_survey::put_shown;
 use std::alloc::{AllocError, Global};
 
 /// The text that a string is written of, or `None` if it's none.

@@ -9,6 +9,7 @@ use rdm_frame::digits::bytes_in;
 use rdm_frame::{Body, Frame, Load, decode_view, encode};
 use std::alloc::Global;
 use std::fmt::Write;
+use std::process::Abort;
 use std::test::Fail;
 
 const CONSOLE: Uid = Uid {
@@ -193,11 +194,16 @@ fn ending(mailbox: &mut Mailbox, port: &mut Listed, command: &Command) -> Result
 fn commands_are_carried_out(rt: HostRuntime) -> Result<(), Fail> {
     for (action, replies, run) in RUNS {
         let (mut mailbox, mut port) = begun(rt.alloc(), replies);
-        let end = ending(&mut mailbox, &mut port, &lamp(*action))?;
-        write!(port.told, "{end:?}")?;
-        assert_eq!(rt; port.told.as_str(), *run);
-        assert_eq!(rt; port.replies, "", "{run}");
+        runs(&mut mailbox, &mut port, &lamp(*action))?;
+        assert!(rt; (port.told.as_str(), port.replies) == (*run, ""), "{run}");
     }
+    Ok(())
+}
+
+/// Carries a command out, and tells how it ends behind what was done.
+fn runs(mailbox: &mut Mailbox, port: &mut Listed, command: &Command) -> Result<(), Fail> {
+    let end = ending(mailbox, port, command)?;
+    write!(port.told, "{end:?}")?;
     Ok(())
 }
 
@@ -218,23 +224,30 @@ fn a_reply_has_300_parts_at_most(rt: HostRuntime) {
     let mut conversation = Conversation::new(&command);
     let part = Answered::By(Response::AckOverflow);
     for number in 1..300 {
-        assert_eq!(rt; conversation.hear_answer(part), Next::Ask, "part {number}");
+        assert!(rt;
+            conversation.hear_answer(part) == Next::Ask,
+            "part {number}"
+        );
     }
-    let next = conversation.hear_answer(part);
-    assert_eq!(rt; next, Next::GiveUp(Lack::Endless));
+    assert!(rt; conversation.hear_answer(part) == Next::GiveUp(Lack::Endless));
 }
 
 #[test]
 fn a_message_takes_300_polls_at_most(rt: HostRuntime) {
     let mut fetching = Fetching::new();
     for number in 1..150 {
-        assert_eq!(rt; fetching.hear(Came::Ignored), None, "poll {number}");
-        let next = fetching.hear(Came::Message(Sorted::Part));
-        assert_eq!(rt; next, None, "part {number}");
+        let told = (
+            fetching.hear(Came::Ignored),
+            fetching.hear(Came::Message(Sorted::Part)),
+        );
+        assert!(rt; told == (None, None), "poll and part {number}");
     }
-    assert_eq!(rt; fetching.hear(Came::Ignored), None);
-    assert_eq!(rt; fetching.hear(Came::Ignored), Some(Fetched::Endless));
-    assert_eq!(rt; fetching.hear(Came::Ignored), None);
+    let told = (
+        fetching.hear(Came::Ignored),
+        fetching.hear(Came::Ignored),
+        fetching.hear(Came::Ignored),
+    );
+    assert!(rt; told == (None, Some(Fetched::Endless), None));
 }
 
 #[test]
@@ -244,37 +257,51 @@ fn sixty_messages_are_fetched_at_most(rt: HostRuntime) {
     let mut conversation = Conversation::new(&command);
     conversation.hear_answer(Answered::By(Response::AckTimer { tenths: 3 }));
     for number in 1..61 {
-        assert_eq!(rt; conversation.waited(), Next::Poll, "poll {number}");
-        let next = conversation.hear_poll(Came::NotYet { tenths: 1 }, &mailbox);
-        assert_eq!(rt; next, Next::Wait { tenths: 1 }, "poll {number}");
+        let told = (
+            conversation.waited(),
+            conversation.hear_poll(Came::NotYet { tenths: 1 }, &mailbox),
+        );
+        assert!(rt;
+            told == (Next::Poll, Next::Wait { tenths: 1 }),
+            "poll {number}"
+        );
     }
-    assert_eq!(rt; conversation.waited(), Next::GiveUp(Lack::NoResult));
+    assert!(rt; conversation.waited() == Next::GiveUp(Lack::NoResult));
 }
 
 #[test]
-fn a_command_is_sent_three_times(rt: HostRuntime) -> Result<(), Fail> {
-    let command = lamp(Action::Get);
-    let (mut mailbox, mut port) = begun(rt.alloc(), "- - 0021040302");
-    assert!(rt; ask_through(&mut mailbox, &mut port, &command)?.is_some());
-    let (mut mailbox, mut port) = begun(rt.alloc(), "- - - 0021040302");
-    assert!(rt; ask_through(&mut mailbox, &mut port, &command)?.is_none());
-    assert_eq!(rt; port.told.as_str(), "ask ask ask ");
-    Ok(())
+fn a_command_is_sent_three_times(rt: HostRuntime) {
+    is_asked(&rt, rt.alloc(), "- - 0021040302", true);
+    is_asked(&rt, rt.alloc(), "- - - 0021040302", false);
+}
+
+/// A command is sent three times, and answered or not.
+fn is_asked(rt: &impl Abort, alloc: Global, replies: &'static str, is_answered: bool) {
+    let (mut mailbox, mut port) = begun(alloc, replies);
+    let heard = ask_through(&mut mailbox, &mut port, &lamp(Action::Get)).expect(rt, "an end");
+    assert!(rt; (heard.is_some(), port.told.as_str()) == (is_answered, "ask ask ask "));
 }
 
 #[test]
-fn a_port_that_failed_leaves_nothing_open(rt: HostRuntime) -> Result<(), Fail> {
-    let mut command = lamp(Action::Get);
+fn a_port_that_failed_leaves_nothing_open(rt: HostRuntime) {
     let (mut mailbox, mut port) = begun(rt.alloc(), "");
-    let closed = ask_through(&mut mailbox, &mut port, &command).err();
-    assert_eq!(rt; closed, Some(AskFault::Port(PortError::Closed)));
-    let closed = poll_once(&mut mailbox, &mut port).err();
-    assert_eq!(rt; closed, Some(PollFault::Port(PortError::Closed)));
-    mailbox.ask(&command)?;
+    let mut command = lamp(Action::Get);
+    is_closed(&rt, &mut mailbox, &mut port, &command);
+    mailbox.ask(&command).expect(&rt, "nothing is open");
     mailbox.hear(&None);
     command.pid = QUEUED;
     let refused = ask_through(&mut mailbox, &mut port, &command).err();
-    assert_eq!(rt; refused, Some(AskFault::Ask(AskError::Reserved)));
-    assert_eq!(rt; port.told.as_str(), "ask poll ");
-    Ok(())
+    let wanted = (Some(AskFault::Ask(AskError::Reserved)), "ask poll ");
+    assert!(rt; (refused, port.told.as_str()) == wanted);
+}
+
+/// A command and a poll fail, since the port is closed.
+fn is_closed(rt: &impl Abort, mailbox: &mut Mailbox, port: &mut Listed, command: &Command) {
+    let asked = ask_through(mailbox, port, command).err();
+    let polled = poll_once(mailbox, port).err();
+    let wanted = (
+        Some(AskFault::Port(PortError::Closed)),
+        Some(PollFault::Port(PortError::Closed)),
+    );
+    assert!(rt; (asked, polled) == wanted);
 }

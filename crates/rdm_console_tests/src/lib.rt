@@ -1,6 +1,8 @@
-//! The tests of rdm_console, in a crate of their own: a crate with tests is proved twice.
+//! The tests of rdm_collector and rdm_console, in a crate of their own: a crate with tests is proved twice.
 #![tactic(auto)]
 
+#[cfg(test)]
+mod collector;
 #[cfg(test)]
 mod conversations;
 #[cfg(test)]

@@ -37,7 +37,7 @@ const ENTRY: &[u8] = &[0, 0, 0x04, 0x80, 0x01, 0, 2, 0, 0];
 
 const OTHER_ENTRY: &[u8] = &[0, 0, 0x14, 0x80, 0x01, 0, 2, 0, 0];
 
-const ROWS: [Row; 24] = [
+const ROWS: &[Row] = &[
     // A message alone, its repeat, and the same once more, which the device gives by itself.
     (false, ACK, LAMP, &[1], Sorted::Letter, Some(&[1])),
     (true, ACK, LAMP, &[1], Sorted::Repeat, None),
@@ -112,50 +112,69 @@ fn answer(rt: &impl Abort, request: &Wire, port: u8, pid: u16, data: &[u8]) -> O
 }
 
 #[test]
-fn messages_are_handed_on_once(rt: HostRuntime) -> Result<(), Fail> {
+fn messages_are_handed_on_once(rt: HostRuntime) {
     let mut mailbox = Mailbox::new(rt.alloc(), CONSOLE, FIXTURE, Want::Advisory);
     for (index, row) in ROWS.iter().enumerate() {
-        let (is_lost, port, pid, data, sorted, handed) = *row;
-        if is_lost {
-            mailbox.poll()?;
-            assert_eq!(rt; mailbox.hear(&None), Came::Ignored, "row {index}");
-        }
-        let request = mailbox.poll()?;
-        let came = mailbox.hear(&answer(&rt, &request, port, pid, data));
-        assert_eq!(rt; came, Came::Message(sorted), "row {index}");
-        if let Some(bytes) = handed {
-            let letter = mailbox.letter().ok_or("no letter")?;
-            assert_eq!(rt; letter.message.body, bytes, "row {index}");
-            assert_eq!(rt; letter.again, is_lost, "row {index}");
-        }
+        try_row(&rt, &mut mailbox, index, row);
     }
-    Ok(())
+}
+
+fn try_row(rt: &impl Abort, mailbox: &mut Mailbox, index: usize, row: &Row) {
+    let (is_lost, port, pid, data, sorted, handed) = *row;
+    if is_lost {
+        loses_poll(rt, mailbox);
+    }
+    let request = mailbox.poll().expect(rt, "a poll");
+    let came = mailbox.hear(&answer(rt, &request, port, pid, data));
+    assert!(rt; came == Came::Message(sorted), "row {index}");
+    if let Some(bytes) = handed {
+        let letter = mailbox.letter().expect(rt, "a letter");
+        assert!(rt;
+            (letter.message.body, letter.again) == (bytes, is_lost),
+            "row {index}"
+        );
+    }
+}
+
+/// A poll to which nothing is heard.
+fn loses_poll(rt: &impl Abort, mailbox: &mut Mailbox) {
+    mailbox.poll().expect(rt, "a poll");
+    assert!(rt; mailbox.hear(&None) == Came::Ignored);
 }
 
 #[test]
-fn requests_wait_for_their_answers(rt: HostRuntime) -> Result<(), Fail> {
+fn requests_wait_for_their_answers(rt: HostRuntime) {
     let mut mailbox = Mailbox::new(rt.alloc(), CONSOLE, FIXTURE, Want::Advisory);
-    let mut command = Command {
+    waits_for_reply(&rt, &mut mailbox);
+    has_no_queue(&rt, &mut mailbox);
+}
+
+/// A command of a parameter.
+fn get(pid: u16) -> Command {
+    Command {
         dst: FIXTURE,
         action: Action::Get,
         sub: 0,
-        pid: LAMP,
+        pid,
         load: Load::new(),
-    };
-    let request = mailbox.ask(&command)?;
-    assert_eq!(rt; mailbox.ask(&command).err(), Some(AskError::Busy));
-    assert_eq!(rt; mailbox.poll().err(), Some(PollError::Busy));
-    assert_eq!(rt;
-        mailbox.hear(&answer(&rt, &request, ACK, LAMP, &[1])),
-        Came::Reply
-    );
-    command.pid = STATUS;
-    assert_eq!(rt; mailbox.ask(&command).err(), Some(AskError::Reserved));
-    let request = mailbox.poll()?;
-    let none = answer(&rt, &request, NACK, 0x0020, &[0, 0]);
-    assert_eq!(rt; mailbox.hear(&none), Came::NoQueue);
-    assert!(rt; mailbox.letter().is_none());
-    Ok(())
+    }
+}
+
+/// No other request is sent before the reply comes, and none for status messages by a command.
+fn waits_for_reply(rt: &impl Abort, mailbox: &mut Mailbox) {
+    let request = mailbox.ask(&get(LAMP)).expect(rt, "a request");
+    let refused = (mailbox.ask(&get(LAMP)).err(), mailbox.poll().err());
+    assert!(rt; refused == (Some(AskError::Busy), Some(PollError::Busy)));
+    let came = mailbox.hear(&answer(rt, &request, ACK, LAMP, &[1]));
+    let reserved = mailbox.ask(&get(STATUS)).err();
+    assert!(rt; (came, reserved) == (Came::Reply, Some(AskError::Reserved)));
+}
+
+/// A fixture that rejects the poll has no queue.
+fn has_no_queue(rt: &impl Abort, mailbox: &mut Mailbox) {
+    let request = mailbox.poll().expect(rt, "a poll");
+    let came = mailbox.hear(&answer(rt, &request, NACK, 0x0020, &[0, 0]));
+    assert!(rt; (came, mailbox.letter().is_none()) == (Came::NoQueue, true));
 }
 
 /// What comes after a poll, if something does: its response type, parameter and data.

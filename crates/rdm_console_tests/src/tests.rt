@@ -53,7 +53,7 @@ const LAMP: Asked = (Action::Set, 0, 0x0403, &[2]);
 const LAMP_TWO: Asked = (Action::Set, 2, 0x0403, &[2]);
 
 /// A command, a message, and whether that is the result.
-const BELONGING: [(Asked, Came, bool); 24] = [
+const BELONGING: &[(Asked, Came, bool)] = &[
     // The reading of a sensor is that of the sensor asked for.
     (
         SENSOR,
@@ -146,8 +146,8 @@ const BELONGING: [(Asked, Came, bool); 24] = [
 #[test]
 fn messages_belong_to_commands(rt: HostRuntime) {
     for (asked, came, expected) in BELONGING {
-        let is_result = belongs(&command(&rt, asked), &message(came));
-        assert_eq!(rt; is_result, expected, "{came:?} after {asked:?}");
+        let is_result = belongs(&command(&rt, *asked), &message(*came));
+        assert!(rt; is_result == *expected, "{came:?} after {asked:?}");
     }
 }
 
@@ -189,7 +189,7 @@ const LAMP_TWO_FAILED: Verdict = Verdict::Failed(Entry {
 });
 
 /// A command, the messages that come, and what the last of them means for it. All before it leave it waiting.
-const ENDINGS: [(Asked, &[Came], Verdict); 13] = [
+const ENDINGS: &[(Asked, &[Came], Verdict)] = &[
     (LAMP, &[(ACK, 0x31, 0, 0x0403, &[])], Verdict::Done),
     (
         LAMP,
@@ -246,7 +246,7 @@ fn ending(rt: &impl Abort, asked: Asked, messages: &[Came]) -> Verdict {
     let mut awaiting = Awaiting::new(&command);
     let mut verdict = Verdict::Waits;
     for came in messages {
-        assert_eq!(rt; verdict, Verdict::Waits, "before {came:?}");
+        assert!(rt; verdict == Verdict::Waits, "before {came:?}");
         verdict = awaiting.hear(&message(*came));
     }
     verdict
@@ -255,7 +255,7 @@ fn ending(rt: &impl Abort, asked: Asked, messages: &[Came]) -> Verdict {
 #[test]
 fn commands_end(rt: HostRuntime) {
     for (asked, messages, expected) in ENDINGS {
-        let verdict = ending(&rt, asked, messages);
-        assert_eq!(rt; verdict, expected, "{messages:?} after {asked:?}");
+        let verdict = ending(&rt, *asked, messages);
+        assert!(rt; verdict == *expected, "{messages:?} after {asked:?}");
     }
 }

@@ -96,7 +96,7 @@ where
 fn runs_end_with_these_refusals(rt: HostRuntime) -> Result<(), Fail> {
     for (row, refusal) in REFUSALS {
         let ended = run_of(rt, rt.alloc(), row)?;
-        assert_eq!(rt; ended.err(), Some(*refusal), "{}", row.name);
+        assert!(rt; ended.err() == Some(*refusal), "{}", row.name);
     }
     Ok(())
 }
@@ -229,7 +229,7 @@ fn are_reported(
     told: &[(u32, Outcome)],
 ) -> Result<(), AllocError> {
     let reports = arrived(alloc, trace, &row.workers, worker)?;
-    assert_eq!(rt; reports.as_slice(), told, "{}", row.name);
+    assert!(rt; reports.as_slice() == told, "{}", row.name);
     Ok(())
 }
 
@@ -258,12 +258,12 @@ fn were_handed_over(rt: &impl Abort, row: &Row, trace: &Trace, told: Told) {
     let counts = (trace.events().len(), first, second, reports.taken().len());
     let (first, second) = (told.first.len(), told.second.len());
     let expected = (told.events, first, second, first + second + 2);
-    assert_eq!(rt; counts, expected, "{}", row.name);
+    assert!(rt; counts == expected, "{}", row.name);
 }
 
 /// The messages of these classes and PIDs were collected, of the root and without data.
 fn are_collected(rt: &impl Abort, trace: &Trace, collected: &[(u8, u16)]) {
-    assert_eq!(rt; trace.recorded().len(), collected.len());
+    assert!(rt; trace.recorded().len() == collected.len());
     for (message, (class, pid)) in trace.recorded().iter().zip(collected) {
         let told = (
             message.class,
@@ -271,7 +271,7 @@ fn are_collected(rt: &impl Abort, trace: &Trace, collected: &[(u8, u16)]) {
             message.sub,
             message.body.as_slice().len(),
         );
-        assert_eq!(rt; told, (*class, *pid, 0, 0));
+        assert!(rt; told == (*class, *pid, 0, 0));
     }
 }
 

@@ -1,3 +1,4 @@
 pub mod Lengths
 pub mod Numerals
 pub mod Printed
+pub mod WordsBack

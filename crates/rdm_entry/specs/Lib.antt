@@ -2,5 +2,6 @@ pub mod Described
 pub mod Entries
 pub mod Names
 pub mod Numerals
+pub mod Plain
 pub mod Slots
 pub mod Words

@@ -12,7 +12,9 @@ mod laws;
 mod layouts;
 mod numeral;
 mod parameter;
+mod plain;
 mod reading;
+mod replied;
 mod signed;
 mod table;
 mod word;
@@ -22,7 +24,10 @@ pub use error::{Complaint, EntryError, Wrong};
 pub use field::Field;
 pub use laws::{
     data_have_the_slots_of_their_fields, printed_numbers_are_read_back, unclear_digits_are_refused,
+    words_of_data_are_read_back,
 };
 pub use parameter::{nearest_parameter, parameter_named};
+pub use plain::words_of;
 pub use reading::data_in;
+pub use replied::fields_replied;
 pub use table::fields_of;

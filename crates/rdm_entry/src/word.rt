@@ -139,7 +139,7 @@ fn pin_said(word: &[u8]) -> Result<Load, Wrong>
 }
 
 /// Whether double quotes stand at both ends of a word.
-fn is_quoted(word: &[u8]) -> bool
+pub(crate) fn is_quoted(word: &[u8]) -> bool
     ensures { result ≡ is_quoted word.now }
 {
     word.len() >= 2 && word[0] == b'"' && word[word.len() - 1] == b'"'

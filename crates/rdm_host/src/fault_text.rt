@@ -145,7 +145,7 @@ fn write_no_rig<W: fmt::Write>(f: &mut fmt::Formatter<W>, fault: &Fault<'_>) -> 
     match fault {
         Fault::TooManyFixtures(kinds, 1) => write!(
             f,
-            "error: --fixture: {kinds} fixtures are more than {MOST_FIXTURES}"
+            "error: --fixture: {kinds} fixtures exceed the limit of {MOST_FIXTURES}"
         ),
         Fault::TooManyFixtures(kinds, each) => {
             let count = kinds.saturating_mul(usize::from(*each));
@@ -194,7 +194,7 @@ fn write_stop<W: fmt::Write>(f: &mut fmt::Formatter<W>, error: RunError) -> fmt:
         RunError::TooLong => {
             write!(f, "a frame can't carry more than {MOST_DATA} bytes of data")
         }
-        RunError::Unsettled => { f.write_str("settle found no report more times than it allows") }
+        RunError::Unsettled => { f.write_str("settle timed out: too many looks without a report") }
         RunError::BadSetup | RunError::OutOfMemory | RunError::Astray | RunError::Missing => {
             write!(f, "run {error}")
         }

@@ -80,6 +80,8 @@ pub enum LineFault<'a> {
     OtherValue(Uid),
     /// Of a command and a file of settings, neither is given, or both.
     OneOfBoth,
+    /// No file can describe the device.
+    Indescribable(Uid),
 }
 
 impl LineFault<'_> {
@@ -115,7 +117,8 @@ impl LineFault<'_> {
             | LineFault::Endless(_)
             | LineFault::OtherValue(_)
             | LineFault::NoRoom(_)
-            | LineFault::Undone(_, _) => 3,
+            | LineFault::Undone(_, _)
+            | LineFault::Indescribable(_) => 3,
         }
     }
 
@@ -205,15 +208,15 @@ impl fmt::Display for LineFault<'_> {
             LineFault::NoParameter(_, _) | LineFault::NoData(_) | LineFault::NoDigits(_) => {
                 write_no_word(f, self)
             }
-            LineFault::NoCommand => f.write_str("this isn't one command"),
+            LineFault::NoCommand => f.write_str("expected exactly one command"),
             LineFault::Several(uid) => {
                 write!(
                     f,
-                    "{uid} is no single device: only set can be sent to several"
+                    "{uid} isn't a single device: only set can address several"
                 )
             }
             LineFault::Reserved => f.write_str(
-                "QUEUED_MESSAGE and STATUS_MESSAGES are fetched by collect alone",
+                "use collect to fetch QUEUED_MESSAGE and STATUS_MESSAGES",
             ),
             LineFault::TooLong => write!(
                 f,
@@ -245,18 +248,15 @@ fn write_of_several<W: fmt::Write>(
         LineFault::File(path, reason) => write!(f, "{}: {reason}", Name(path)),
         LineFault::Unsettled(path, 1) => write!(
             f,
-            "{}: nothing was set, since one setting can't be right",
+            "{}: nothing was set: one setting is invalid",
             Name(path)
         ),
         LineFault::Unsettled(path, count) => write!(
             f,
-            "{}: nothing was set, since {count} settings can't be right",
+            "{}: nothing was set: {count} settings are invalid",
             Name(path)
         ),
-        LineFault::NoRoom(last) => write!(
-            f,
-            "the devices need slots up to {last}, and DMX512 has 512"
-        ),
+        LineFault::NoRoom(last) => write!(f, "the devices need {last} slots, but DMX512 has 512"),
         LineFault::Undone(undone, count) => write!(f, "{undone} of {count} failed"),
         LineFault::Differs(1) => f.write_str("one difference"),
         LineFault::Differs(count) => write!(f, "{count} differences"),
@@ -276,12 +276,12 @@ fn write_no_word<W: fmt::Write>(f: &mut fmt::Formatter<W>, fault: &LineFault<'_>
         ),
         LineFault::NoParameter(word, None) => write!(
             f,
-            "\"{word}\" isn't a valid parameter: expected 4 hexadecimal digits, or a name in E1.20 such as DEVICE_INFO; a maker's own has its PID alone"
+            "\"{word}\" isn't a valid parameter: expected 4 hexadecimal digits, or a name in E1.20 such as DEVICE_INFO; manufacturer parameters only have a PID"
         ),
         LineFault::NoData(complaint) => write!(f, "{complaint}"),
         LineFault::NoDigits(word) => write!(
             f,
-            "\"{word}\" isn't valid data: expected -, or two hexadecimal digits for each byte, since nobody describes this parameter"
+            "\"{word}\" isn't valid data: expected -, or two hexadecimal digits for each byte, since this parameter has no description"
         ),
         _ => Ok(()),
     }
@@ -298,7 +298,7 @@ fn write_no_port<W: fmt::Write>(f: &mut fmt::Formatter<W>, fault: &LineFault<'_>
         LineFault::Taken(path) => write!(f, "{}: another program uses this port", Name(path)),
         LineFault::NoInterface(path) => write!(
             f,
-            "{}: no interface answers: is it an ENTTEC DMX USB Pro or one like it, and the port set raw?",
+            "{}: no interface answers: is this an ENTTEC DMX USB Pro or compatible, and is the port in raw mode?",
             Name(path)
         ),
         LineFault::Closed(path) => write!(
@@ -307,7 +307,7 @@ fn write_no_port<W: fmt::Write>(f: &mut fmt::Formatter<W>, fault: &LineFault<'_>
             Name(path)
         ),
         LineFault::Port(error) => write!(f, "{error}"),
-        LineFault::Busy => f.write_str("another request waits for its answer"),
+        LineFault::Busy => f.write_str("another request is still waiting for its answer"),
         _ => Ok(()),
     }
 }
@@ -319,7 +319,7 @@ fn write_unanswered<W: fmt::Write>(
 ) -> fmt::Result {
     match fault {
         LineFault::NoDevice => f.write_str(
-            "no device answers: look at the cable, its terminator, and whether the devices have power and RDM switched on",
+            "no device answers: check the cable, the terminator, and that the devices are powered and have RDM enabled",
         ),
         LineFault::Silent(uid) => write!(
             f,
@@ -330,7 +330,7 @@ fn write_unanswered<W: fmt::Write>(
         LineFault::Unknown(uid) => {
             write!(
                 f,
-                "{uid} answers by a response type that E1.20 doesn't have"
+                "{uid} answers with a response type that E1.20 doesn't define"
             )
         }
         LineFault::NoQueue(uid) => write!(f, "{uid} has no QUEUED_MESSAGE"),
@@ -339,9 +339,10 @@ fn write_unanswered<W: fmt::Write>(
             write!(f, "{uid} rejects QUEUED_MESSAGE: {reason}")
         }
         LineFault::NoResult(uid) => write!(f, "{uid} sent no result in time"),
-        LineFault::Endless(uid) => write!(f, "{uid} sends messages without end"),
-        LineFault::OtherValue(uid) => write!(f, "{uid} took the value, and tells another one"),
-        _ => f.write_str("the search found no end"),
+        LineFault::Endless(uid) => write!(f, "{uid} keeps sending messages"),
+        LineFault::OtherValue(uid) => write!(f, "{uid} accepted the value but reports another one"),
+        LineFault::Indescribable(uid) => write!(f, "no file can describe {uid}"),
+        _ => f.write_str("the search doesn't end"),
     }
 }
 

@@ -24,7 +24,7 @@ const NO_DATA: &str = "-";
 const MOST_DIGITS: usize = 2 * MOST_DATA;
 
 /// The first PID of those that the standard leaves to makers (E1.20 table A-3).
-const FIRST_OF_MAKERS: u16 = 0x8000;
+pub(crate) const FIRST_OF_MAKERS: u16 = 0x8000;
 
 /// The data that words say, as far as it is known.
 #[derive(Drop)]
@@ -133,7 +133,7 @@ pub(crate) fn ask_described<'a, H: Host, P: Port, F: Write>(
 }
 
 /// The fields of a parameter, as this device describes them.
-fn description_of<'a, H: Host, P: Port, F: Write>(
+pub(crate) fn description_of<'a, H: Host, P: Port, F: Write>(
     console: &mut Console<'a, H, P, F>,
     uid: Uid,
     pid: u16,

@@ -1,6 +1,7 @@
 //! What is asked for on a line.
 
 use super::entry::{Described, Entry, ask_described, load_in, parameter_in};
+use super::plain::{Reading, read_each};
 use super::playing::{Play, play_through};
 use super::watching::watch;
 use clap::ArgMatches;
@@ -14,9 +15,9 @@ use rdm_host::line_fault::LineFault;
 use rdm_host::source::Source;
 use rdm_line_survey::{
     Addressing, Identifying, Listing, Restoring, Settings, Then, address, compare, identify, list,
-    restore, save, sensors, set_all, status,
+    portray, restore, save, sensors, set_all, status,
 };
-use rdm_line_talk::{CONSOLE, Console, Tally, Targets};
+use rdm_line_talk::{CONSOLE, Console, Tally, Targets, uid_in};
 use rdm_script::{Dialect, ScriptError, Spelling, parse_as, refusal_at};
 use std::io::Write;
 
@@ -31,6 +32,8 @@ pub enum Errand<'a> {
     Address(Addressing),
     /// A command is sent.
     Ask(Targets, Command),
+    /// A value is read, and printed alone.
+    Read(Reading),
     /// A command is sent whose data the devices describe first.
     Describe(Targets, Described<'a>),
     /// The settings of a file are made.
@@ -39,6 +42,8 @@ pub enum Errand<'a> {
     Identify(Identifying),
     /// The sensors of devices are listed.
     Sensors(Targets),
+    /// A device is described in a fixture's file.
+    Portray(Uid),
     /// What is wrong with devices is listed.
     Status(Targets),
     /// The messages of devices are fetched.
@@ -86,6 +91,7 @@ impl<'a> Errand<'a> {
         match name {
             "identify" => Ok(Errand::Identify(Identifying::asked_for(alloc, words)?)),
             "sensors" => Ok(Errand::Sensors(Targets::single(alloc, words)?)),
+            "describe" => Ok(Errand::Portray(single_in(words)?)),
             "status" => Ok(Errand::Status(Targets::single(alloc, words)?)),
             "collect" => Ok(Errand::Collect(Targets::single(alloc, words)?)),
             "save" => Ok(Errand::Save(written_in(words)?)),
@@ -108,10 +114,12 @@ impl<'a> Errand<'a> {
             Errand::List(listing) => list(console, *listing),
             Errand::Address(addressing) => address(console, *addressing),
             Errand::Ask(targets, command) => ask_each(console, targets, command),
+            Errand::Read(reading) => read_each(console, reading),
             Errand::Describe(targets, described) => describe_each(console, targets, described),
             Errand::Set(settings) => set_all(console, settings),
             Errand::Identify(identifying) => identify(console, identifying),
             Errand::Sensors(targets) => sensors(console, targets),
+            Errand::Portray(uid) => portray(console, *uid),
             Errand::Status(targets) => status(console, targets),
             Errand::Collect(targets) => collect_each(console, targets),
             Errand::Watch => watch(console),
@@ -182,6 +190,15 @@ fn refuse_clashes<'a>(asked: &ArgMatches<'a>, words: &ArgMatches<'a>) -> Result<
     }
 }
 
+/// The one device that is named.
+fn single_in<'a>(asked: &ArgMatches<'a>) -> Result<Uid, Fault<'a>> {
+    let uid = uid_in(asked.get_str(rdm_usage::UID).unwrap_or(""))?;
+    if uid.is_broadcast() {
+        return Err(Fault::Line(LineFault::Several(uid)));
+    }
+    Ok(uid)
+}
+
 /// The name of the file to which a survey is written. One that is read, or that the trace is written to, is refused.
 fn written_in<'a>(asked: &ArgMatches<'a>) -> Result<&'a str, Fault<'a>> {
     let path = asked.get_str(rdm_usage::FILE).unwrap_or("");
@@ -246,6 +263,9 @@ fn command<'a, H: Host>(
     match load_in(&command, words, may_describe)? {
         Entry::Data(load) => {
             command.load = load;
+            if action == Action::Get && asked.get_str(rdm_usage::FORMAT) == Some(rdm_usage::PLAIN) {
+                return Ok(Errand::Read(Reading::new(targets, command)));
+            }
             Ok(Errand::Ask(targets, command))
         }
         Entry::Unknown => {

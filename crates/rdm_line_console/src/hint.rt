@@ -21,7 +21,7 @@ impl Hint {
         let alloc = rt.alloc();
         let port = Name(name);
         let text = format!(in alloc;
-            "{port}: nothing can be read yet. If it stays so, end with Ctrl-C, and type: stty -F {port} raw -echo min 0 time 1\n"
+            "{port}: nothing to read yet. If this persists, press Ctrl-C and run: stty -F {port} raw -echo min 0 time 1\n"
         )?;
         let is_read = Arc::new(alloc, AtomicBool::new(false))?;
         let seen = Arc::try_clone(&is_read)?;

@@ -5,6 +5,7 @@ mod entry;
 mod errand;
 mod hint;
 mod line;
+mod plain;
 mod playing;
 mod watching;
 

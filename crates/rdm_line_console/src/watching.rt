@@ -115,7 +115,7 @@ fn tell_state<'a, H: Host, P: Port, F: Write>(
 ) -> Result<(), Fault<'a>> {
     match state {
         State::Answers => tell_of(console, uid, "answers again"),
-        State::Silent => tell_of(console, uid, "doesn't answer any more"),
+        State::Silent => tell_of(console, uid, "no longer answers"),
         State::NoQueue => tell_of(console, uid, "has no QUEUED_MESSAGE, and isn't polled"),
         State::Refuses(code) => {
             let (alloc, reason) = (console.teller.rt().alloc(), Reason(code));

@@ -71,13 +71,13 @@ pub(crate) fn settle<'a, H: Host, P: Port, F: Write>(
     is_set: bool,
 ) -> Result<(), Fault<'a>> {
     if settings.is_empty() {
-        return console.teller.tell(b"nothing is to be set\n");
+        return console.teller.tell(b"nothing to set\n");
     }
     if is_set {
         return make_all(console, settings);
     }
     let line = format!(in console.teller.rt().alloc();
-        "nothing was set: with --yes, {} settings are made\n",
+        "nothing was set: --yes makes {} settings\n",
         settings.len()
     )?;
     console.teller.tell(line.as_bytes())

@@ -36,7 +36,7 @@ pub fn save<'a, H: Host, P: Port, F: Write>(
         return console.teller.tell(text.as_slice());
     }
     source::save(rt, path, text.as_slice())?;
-    let line = format!(in rt.alloc(); "{} devices are kept in {path}\n", rows.len())?;
+    let line = format!(in rt.alloc(); "saved {} devices to {path}\n", rows.len())?;
     console.teller.on_errors().tell(line.as_bytes())
 }
 
@@ -141,7 +141,7 @@ fn tell_setting<'a, H: Host>(teller: &Teller<H>, setting: &Command) -> Result<()
     let (uid, sub) = (setting.dst, setting.sub);
     let name = parameter(setting.pid).unwrap_or("");
     let line = match sub {
-        0 => format!(in teller.rt().alloc(); "{uid}: {name} is to be set back\n")?,
+        0 => format!(in teller.rt().alloc(); "{uid}: restore {name}\n")?,
         _ => format!(in teller.rt().alloc(); "{uid} sub-device {sub}: {name} is to be set back\n")?,
     };
     teller.tell(line.as_bytes())

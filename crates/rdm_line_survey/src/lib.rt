@@ -4,6 +4,7 @@
 
 mod addressing;
 mod clashing;
+mod describing;
 mod diagnosing;
 mod getting;
 mod identifying;
@@ -15,6 +16,7 @@ mod sensing;
 mod setting;
 
 pub use addressing::{Addressing, address};
+pub use describing::portray;
 pub use diagnosing::status;
 pub use identifying::{Identifying, identify};
 pub use keeping::{Restoring, Then, compare, restore, save};

@@ -6,7 +6,7 @@ use rdm_frame::Uid;
 use rdm_host::fault::Fault;
 use rdm_host::host::Host;
 use rdm_host::line_fault::LineFault;
-use rdm_line_talk::{CONSOLE, Console, Outcome, Tally, fault_of};
+use rdm_line_talk::{CONSOLE, Console, Outcome, Tally, Teller, fault_of};
 use std::io::Write;
 
 /// A SET of a parameter of the root or of a sub-device.
@@ -20,26 +20,53 @@ pub(crate) fn setting(uid: Uid, sub: u16, pid: u16, load: Load) -> Command {
     }
 }
 
-/// Makes each of these settings, and tells what was made and what wasn't. A device that is at fault doesn't stop the others.
+/// How it is known that a setting was made.
+#[derive(Clone, Copy)]
+enum Made {
+    /// The device was read, and has the value.
+    ReadBack,
+    /// The device acknowledged it, and can't be asked for the value.
+    Acknowledged,
+}
+
+/// Makes each of these settings, and tells what was made and what wasn't, and how many couldn't be read back. A device that is at fault
+/// doesn't stop the others.
 pub(crate) fn make_all<'a, H: Host, P: Port, F: Write>(
     console: &mut Console<'a, H, P, F>,
     settings: &[Command],
 ) -> Result<(), Fault<'a>> {
     let mut tally = Tally::new(settings.len());
+    let mut unread: usize = 0;
     for setting in settings {
-        let made = make(console, setting);
-        tally.take(&console.teller, made)?;
+        match make(console, setting) {
+            Ok(Made::ReadBack) => {}
+            Ok(Made::Acknowledged) => unread = unread.saturating_add(1),
+            Err(fault) => tally.take(&console.teller, Err(fault))?,
+        }
     }
     tally.end()?;
-    let line = format!(in console.teller.rt().alloc(); "settings made: {}\n", settings.len())?;
-    console.teller.tell(line.as_bytes())
+    tell_made(&console.teller, settings.len(), unread)
+}
+
+/// Tells how many settings were made, and how many of these couldn't be read back.
+fn tell_made<'a, H: Host>(
+    teller: &Teller<H>,
+    count: usize,
+    unread: usize,
+) -> Result<(), Fault<'a>> {
+    let alloc = teller.rt().alloc();
+    let line = match unread {
+        0 => format!(in alloc; "settings made: {count}\n")?,
+        _ => format!(in alloc; "settings made: {count}, of which {unread} can't be read back\n")?,
+    };
+    teller.tell(line.as_bytes())
 }
 
 /// Makes a setting, and reads it back if it can be read: that it was acknowledged isn't enough.
 fn make<'a, H: Host, P: Port, F: Write>(
     console: &mut Console<'a, H, P, F>,
     setting: &Command,
-) -> Result<(), Fault<'a>> {
+) -> Result<Made, Fault<'a>> {
     let uid = setting.dst;
     let alloc = console.teller.rt().alloc();
     let mut mailbox = Mailbox::new(alloc, CONSOLE, uid, Want::Advisory);
@@ -47,15 +74,15 @@ fn make<'a, H: Host, P: Port, F: Write>(
     match console.outcome(&mut mailbox, &reading_back(setting))? {
         Outcome::Done(told) => kept(setting, told.as_slice()),
         // What is SET alone has no GET.
-        Outcome::Rejected(_) => Ok(()),
+        Outcome::Rejected(_) => Ok(Made::Acknowledged),
         outcome => Err(Fault::Line(fault_of(uid, outcome))),
     }
 }
 
-/// The fault of a setting that was made, if the device tells another value.
-fn kept<'a>(setting: &Command, told: &[u8]) -> Result<(), Fault<'a>> {
+/// How it is known that a setting was made, or the fault if the device tells another value.
+fn kept<'a>(setting: &Command, told: &[u8]) -> Result<Made, Fault<'a>> {
     if told == setting.load.as_slice() {
-        Ok(())
+        Ok(Made::ReadBack)
     } else {
         Err(Fault::Line(LineFault::OtherValue(setting.dst)))
     }

@@ -132,7 +132,7 @@ pub(crate) fn tell_reports<'a, H: Host, P: Port, F: Write>(
         let known = console.port.log().knowledge.of(report.uid);
         teller.tell_reply(&report.reply, &known)?;
         if report.again {
-            teller.tell(b"  it was asked for again, and may have been fetched before\n")?;
+            teller.tell(b"  repeated poll: this message may have been fetched before\n")?;
         }
     }
     for uid in &read.unfinished {

@@ -79,7 +79,7 @@ pub fn set_all<'a, H: Host, P: Port, F: Write>(
         }
     }
     match (missing, commands.is_empty()) {
-        (0, true) => console.teller.tell(b"all of it is set already\n"),
+        (0, true) => console.teller.tell(b"everything is set already\n"),
         (0, false) => make_all(console, commands.as_slice()),
         (missing, _) => Err(Fault::Line(LineFault::Unsettled(settings.name, missing))),
     }

@@ -45,7 +45,8 @@ impl<'a, H: Host, P: Port, F: Write> Console<'a, H, P, F> {
             self.port.exchange(&request)?;
             return Ok(());
         }
-        match self.converse(&mut mailbox, command, Voice::Loud)? {
+        let mut estimate = None;
+        match self.converse(&mut mailbox, command, Voice::Loud, &mut estimate)? {
             Outcome::Done(_) => Ok(()),
             outcome => Err(Fault::Line(fault_of(command.dst, outcome))),
         }
@@ -58,15 +59,29 @@ impl<'a, H: Host, P: Port, F: Write> Console<'a, H, P, F> {
         mailbox: &mut Mailbox,
         command: &Command,
     ) -> Result<Outcome, Fault<'a>> {
-        self.converse(mailbox, command, Voice::Quiet)
+        let (outcome, _estimate) = self.outcome_in_time(mailbox, command)?;
+        Ok(outcome)
     }
 
-    /// Does what is to be done for a command, until it is over.
+    /// The same, and how long the device said at first that it takes, in tenths of a second, if the result came later (E1.20 section
+    /// 6.3.3).
+    pub fn outcome_in_time(
+        &mut self,
+        mailbox: &mut Mailbox,
+        command: &Command,
+    ) -> Result<(Outcome, Option<u16>), Fault<'a>> {
+        let mut estimate = None;
+        let outcome = self.converse(mailbox, command, Voice::Quiet, &mut estimate)?;
+        Ok((outcome, estimate))
+    }
+
+    /// Does what is to be done for a command, until it is over. Notes the first time that is to be waited.
     fn converse(
         &mut self,
         mailbox: &mut Mailbox,
         command: &Command,
         voice: Voice,
+        estimate: &mut Option<u16>,
     ) -> Result<Outcome, Fault<'a>> {
         let uid = command.dst;
         let mut conversation = Conversation::new(command);
@@ -80,6 +95,7 @@ impl<'a, H: Host, P: Port, F: Write> Console<'a, H, P, F> {
                 }
                 Next::Poll => self.polled(mailbox, voice, &mut conversation, &mut parts)?,
                 Next::Wait { tenths } => {
+                    *estimate = Some(estimate.unwrap_or(tenths));
                     self.teller.wait(uid, tenths);
                     conversation.waited()
                 }

@@ -92,9 +92,7 @@ impl<'a, H: Host, P: Port, F: Write> Console<'a, H, P, F> {
             self.teller.tell_joined(letter.message.body)?;
         }
         if !letter.is_whole {
-            self.teller.tell(
-                b"  a poll for its parts wasn't answered, and a part may be missing\n",
-            )?;
+            self.teller.tell(b"  a poll for its parts wasn't answered: a part may be missing\n")?;
         }
         if letter.again {
             self.teller.tell(b"  it was asked for again, and may have been fetched before\n")?;

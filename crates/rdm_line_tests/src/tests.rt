@@ -28,7 +28,7 @@ fn each_answers_for_itself(rt: HostRuntime) -> Result<(), Fail> {
         let reply = decode(wire.as_slice())?;
         assert!(rt; reply.src == own);
         assert!(rt; reply.dst == CONSOLE);
-        assert_eq!(rt; reply.body.as_slice(), [0].as_slice());
+        assert!(rt; reply.body.as_slice() == [0].as_slice());
         assert!(rt; line.get(own).is_some());
     }
     Ok(())
@@ -66,7 +66,7 @@ fn some_may_not_join(rt: HostRuntime) -> Result<(), Fail> {
             assert!(rt; refused.device.uid() == uid(2));
         }
     }
-    assert_eq!(rt; line.len(), 2);
+    assert!(rt; line.len() == 2);
     assert!(rt; !line.is_empty());
     assert!(rt; line.get(uid(1)).is_some());
     assert!(rt; line.get(uid(3)).is_none());
@@ -90,7 +90,7 @@ fn a_station_tells(rt: HostRuntime) -> Result<(), Fail> {
         Some(station) => {
             assert!(rt; station.uid() == uid(1));
             assert!(rt; station.responder_mut().room());
-            assert_eq!(rt; station.responder().waiting(), 0);
+            assert!(rt; station.responder().waiting() == 0);
         }
         None => assert!(rt; false),
     }
@@ -107,7 +107,7 @@ fn each_device_is_lent(rt: HostRuntime) -> Result<(), Fail> {
             Some(device) => {
                 assert!(rt; device.uid() == own);
                 assert!(rt; device.room());
-                assert_eq!(rt; device.waiting(), 0);
+                assert!(rt; device.waiting() == 0);
             }
             None => assert!(rt; false),
         }

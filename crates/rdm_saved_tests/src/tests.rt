@@ -10,7 +10,7 @@ use std::process::Abort;
 
 /// The image of a demonstration fixture with one sub-device as it starts: what it is of, the root, the values of the root alone, two
 /// sensors, the sub-device, and 1655, the sum of all of them.
-const AT_START: [u8; 132] = [
+const AT_START: &[u8] = &[
     0x00, 0x01, 0x02, 0x00, 0x11, 0x00, 0x00, 0x01, 0x00, 0x02, 0x00, 0x12, 0x00, 0x00, 0x01, 0x00,
     0x01, 0x02, 0x07, 0x46, 0x69, 0x78, 0x74, 0x75, 0x72, 0x65, 0x00, 0x00, 0x00, 0x00, 0x00, 0x00,
     0x00, 0x00, 0x00, 0x00, 0x00, 0x00, 0x00, 0x00, 0x00, 0x00, 0x00, 0x00, 0x00, 0x00, 0x00, 0x00,
@@ -23,7 +23,7 @@ const AT_START: [u8; 132] = [
 ];
 
 /// The image of the values of `changed`. Its sum is 2646.
-const CHANGED: [u8; 132] = [
+const CHANGED: &[u8] = &[
     0x00, 0x01, 0x02, 0x00, 0x11, 0x00, 0x00, 0x01, 0x00, 0x02, 0x00, 0x12, 0x00, 0x00, 0x01, 0x00,
     0x01, 0x04, 0x04, 0x4C, 0x65, 0x66, 0x74, 0x00, 0x00, 0x00, 0x00, 0x00, 0x00, 0x00, 0x00, 0x00,
     0x00, 0x00, 0x00, 0x00, 0x00, 0x00, 0x00, 0x00, 0x00, 0x00, 0x00, 0x00, 0x00, 0x00, 0x00, 0x00,
@@ -128,120 +128,149 @@ fn changed(rt: &impl Abort, alloc: Global) -> Fixture {
 
 /// The image of a fixture is this one.
 fn has_image(rt: &impl Abort, fixture: &Fixture, image: &[u8]) {
-    assert_eq!(rt; fixture.image().as_slice(), image);
+    assert!(rt; fixture.image().as_slice() == image);
 }
 
 #[test]
 fn images_are_those_worked_out(rt: HostRuntime) {
     let at_start = Fixture::at_start(&rt, rt.alloc(), Profile::demo(1));
-    has_image(&rt, &at_start, &AT_START);
-    has_image(&rt, &changed(&rt, rt.alloc()), &CHANGED);
+    has_image(&rt, &at_start, AT_START);
+    has_image(&rt, &changed(&rt, rt.alloc()), CHANGED);
+}
+
+/// What a buffer holds that held EE before.
+fn is_in_front(buffer: &[u8], image: &[u8]) -> bool {
+    let rest = buffer.strip_prefix(image);
+    rest.is_some_and(|rest| rest.iter().all(|byte| *byte == 0xEE))
 }
 
 #[test]
 fn an_image_stands_in_front(rt: HostRuntime) {
     let fixture = changed(&rt, rt.alloc());
     let mut longer = [0xEE; 140];
-    assert_eq!(rt; fixture.save_into(&mut longer), Ok(132));
-    let mut wanted = [0xEE; 140];
-    for (place, byte) in wanted.iter_mut().zip(CHANGED) {
-        *place = byte;
-    }
-    assert_eq!(rt; longer.as_slice(), wanted.as_slice());
+    let saved = fixture.save_into(&mut longer);
+    assert!(rt; (saved, is_in_front(&longer, CHANGED)) == (Ok(132), true));
     let mut shorter = [0xEE; 131];
-    assert_eq!(rt; fixture.save_into(&mut shorter), Err(SaveError::Short));
-    assert_eq!(rt; shorter.as_slice(), [0xEE; 131].as_slice());
+    let saved = fixture.save_into(&mut shorter);
+    assert!(rt; (saved, is_in_front(&shorter, &[])) == (Err(SaveError::Short), true));
 }
 
 /// An image is restored, and the fixture then has it.
 fn restores(rt: &impl Abort, fixture: &mut Fixture, image: &[u8]) {
-    assert_eq!(rt; fixture.restore(image), Ok(()));
+    assert!(rt; fixture.restore(image) == Ok(()));
     has_image(rt, fixture, image);
 }
 
 /// A device has this label and this start address.
 fn is_labelled(rt: &impl Abort, device: &CommonValues, label: &[u8], start: u16) {
-    assert_eq!(rt; (device.label.as_slice(), device.start), (label, start));
+    assert!(rt; (device.label.as_slice(), device.start) == (label, start));
 }
 
 #[test]
 fn saved_values_are_restored(rt: HostRuntime) {
     let mut fixture = Fixture::at_start(&rt, rt.alloc(), Profile::demo(1));
-    restores(&rt, &mut fixture, &CHANGED);
+    restores(&rt, &mut fixture, CHANGED);
     is_labelled(&rt, &fixture.root, b"Left", 0x0123);
     is_labelled(&rt, &fixture.subs[0], b"", 512);
-    let recorded = fixture.own.sensors.first().map(|sensor| sensor.recorded);
-    assert_eq!(rt;
-        (fixture.own.power_cycles, recorded),
-        (0x2122_2324, Some(-2))
-    );
+    are_restored(&rt, &fixture.own);
+}
+
+/// The count of power cycles, and what the first sensor recorded, are those that were saved.
+fn are_restored(rt: &impl Abort, own: &RootValues) {
+    let recorded = own.sensors.first().map(|sensor| sensor.recorded);
+    assert!(rt; (own.power_cycles, recorded) == (0x2122_2324, Some(-2)));
 }
 
 #[test]
 fn values_of_the_moment_stay(rt: HostRuntime) {
     let mut fixture = changed(&rt, rt.alloc());
-    restores(&rt, &mut fixture, &AT_START);
+    restores(&rt, &mut fixture, AT_START);
     root_values_stay(&rt, &fixture.root);
     own_values_stay(&rt, &fixture.own);
-    assert_eq!(rt; fixture.subs[0].identify, 1);
+    assert!(rt; fixture.subs[0].identify == 1);
 }
 
 /// The root identifies itself, and its lamp and power are as they were.
 fn root_values_stay(rt: &impl Abort, root: &CommonValues) {
     let shown = (root.lamp_state, root.identify, root.power_state);
-    assert_eq!(rt; shown, (3, 1, 0));
+    assert!(rt; shown == (3, 1, 0));
 }
 
 /// A self test and a preset go on, and the first sensor has measured what it has.
 fn own_values_stay(rt: &impl Abort, own: &RootValues) {
-    assert_eq!(rt; (own.self_test, own.preset), (1, (2, 3)));
     let sensor = own.sensors.first();
-    assert_eq!(rt;
-        sensor.map(|sensor| (sensor.present, sensor.lowest, sensor.highest)),
-        Some((5, -7, 9))
-    );
+    let measured = sensor.map(|sensor| (sensor.present, sensor.lowest, sensor.highest));
+    assert!(rt; (own.self_test, own.preset, measured) == (1, (2, 3), Some((5, -7, 9))));
 }
 
 #[test]
 fn each_cut_and_each_altered_byte_is_refused(rt: HostRuntime) {
     let mut fixture = Fixture::at_start(&rt, rt.alloc(), Profile::demo(1));
     for i in 0..CHANGED.len() {
-        assert_eq!(rt;
-            fixture.restore(&CHANGED[..i]),
-            Err(RestoreError::Length),
-            "{i}"
-        );
-        let mut altered = CHANGED;
-        altered[i] ^= 0x80;
-        assert_eq!(rt;
-            fixture.restore(&altered),
-            Err(RestoreError::Altered),
-            "{i}"
-        );
+        let told = (restored_of(&mut fixture, i), restored_with(&mut fixture, i));
+        let wanted = (Err(RestoreError::Length), Err(RestoreError::Altered));
+        assert!(rt; told == wanted, "{i}");
     }
-    assert_eq!(rt; fixture.image().as_slice(), AT_START.as_slice());
+    has_image(&rt, &fixture, AT_START);
+}
+
+/// What comes of so many bytes of an image.
+fn restored_of(fixture: &mut Fixture, count: usize) -> Result<(), RestoreError> {
+    fixture.restore(CHANGED.get(..count).unwrap_or(CHANGED))
+}
+
+/// What comes of the image with a byte that is altered.
+fn restored_with(fixture: &mut Fixture, place: usize) -> Result<(), RestoreError> {
+    let mut altered = [0; 132];
+    put_front(&mut altered, CHANGED);
+    if let Some(byte) = altered.get_mut(place) {
+        *byte ^= 0x80;
+    }
+    fixture.restore(&altered)
+}
+
+/// Puts bytes at the front of others, if there is room for them.
+fn put_front(out: &mut [u8], bytes: &[u8]) {
+    if bytes.len() <= out.len() {
+        out[..bytes.len()].copy_from_slice(bytes);
+    }
+}
+
+/// The model and the software version of the root, those of the sub-device, and how many sub-devices the profile says.
+type Others = (u16, u32, u16, u32, u16);
+
+const OTHERS: &[Others] = &[
+    (0x0013, 0x0000_0100, 0x0012, 0x0000_0100, 1),
+    (0x0011, 0x0000_0101, 0x0012, 0x0000_0100, 1),
+    (0x0011, 0x0000_0100, 0x0013, 0x0000_0100, 1),
+    (0x0011, 0x0000_0100, 0x0012, 0x0000_0101, 1),
+    (0x0011, 0x0000_0100, 0x0012, 0x0000_0100, 2),
+];
+
+/// The demonstration fixture with these.
+fn of_others(rt: &impl Abort, alloc: Global, others: &Others) -> Fixture {
+    let (model, software, sub_model, sub_software, subs) = *others;
+    let mut profile = Profile::demo(subs);
+    profile.root.model = model;
+    profile.root.software = software;
+    profile.sub.model = sub_model;
+    profile.sub.software = sub_software;
+    Fixture::at_start(rt, alloc, profile)
 }
 
 #[test]
 fn images_of_other_profiles_are_refused(rt: HostRuntime) {
-    // The model and the software version of the root, those of the sub-device, and how many sub-devices the profile says.
-    for (model, software, sub_model, sub_software, subs) in [
-        (0x0013, 0x0000_0100, 0x0012, 0x0000_0100, 1),
-        (0x0011, 0x0000_0101, 0x0012, 0x0000_0100, 1),
-        (0x0011, 0x0000_0100, 0x0013, 0x0000_0100, 1),
-        (0x0011, 0x0000_0100, 0x0012, 0x0000_0101, 1),
-        (0x0011, 0x0000_0100, 0x0012, 0x0000_0100, 2),
-    ] {
-        let mut profile = Profile::demo(subs);
-        profile.root.model = model;
-        profile.root.software = software;
-        profile.sub.model = sub_model;
-        profile.sub.software = sub_software;
-        let mut fixture = Fixture::at_start(&rt, rt.alloc(), profile);
-        let before = fixture.image();
-        assert_eq!(rt; fixture.restore(&CHANGED), Err(RestoreError::OfAnother));
-        assert_eq!(rt; fixture.image().as_slice(), before.as_slice());
+    for others in OTHERS {
+        refuses(&rt, &mut of_others(&rt, rt.alloc(), others));
     }
+}
+
+/// The image is of another fixture, and changes nothing.
+fn refuses(rt: &impl Abort, fixture: &mut Fixture) {
+    let before = fixture.image();
+    let told = fixture.restore(CHANGED);
+    assert!(rt; told == Err(RestoreError::OfAnother));
+    has_image(rt, fixture, &before);
 }
 
 /// A demonstration fixture with a parameter of its own, and without LAMP_STRIKES.
@@ -263,33 +292,45 @@ fn with_own(rt: &impl Abort, alloc: Global, pid: u16) -> Fixture {
 
 /// The image of that fixture as it starts is that of the demonstration, with the parameter and what is left out behind the profile, and the
 /// value behind the sensors. Its sum is 2044.
-fn own_at_start() -> [u8; 171] {
-    let mut image = [0; 171];
-    image[..17].copy_from_slice(&AT_START[..17]);
-    image[17..23].copy_from_slice(&[0x80, 0x01, 0x05, 0x02, 0x04, 0x02]);
-    image[23..88].copy_from_slice(&AT_START[17..82]);
-    image[88..91].copy_from_slice(&[2, 0x15, 0xE0]);
-    image[121..167].copy_from_slice(&AT_START[82..128]);
-    image[167..].copy_from_slice(&[0x00, 0x00, 0x07, 0xFC]);
-    image
-}
+const OWN_AT_START: &[u8] = &[
+    0x00, 0x01, 0x02, 0x00, 0x11, 0x00, 0x00, 0x01, 0x00, 0x02, 0x00, 0x12, 0x00, 0x00, 0x01, 0x00,
+    0x01, 0x80, 0x01, 0x05, 0x02, 0x04, 0x02, 0x02, 0x07, 0x46, 0x69, 0x78, 0x74, 0x75, 0x72, 0x65,
+    0x00, 0x00, 0x00, 0x00, 0x00, 0x00, 0x00, 0x00, 0x00, 0x00, 0x00, 0x00, 0x00, 0x00, 0x00, 0x00,
+    0x00, 0x00, 0x00, 0x00, 0x00, 0x00, 0x00, 0x00, 0x00, 0x01, 0x00, 0x01, 0x00, 0x00, 0x00, 0x00,
+    0x00, 0x00, 0x00, 0x00, 0x00, 0x65, 0x6E, 0x00, 0x00, 0x00, 0x00, 0x00, 0x00, 0x00, 0x00, 0x00,
+    0xFF, 0x00, 0x00, 0x00, 0x00, 0x00, 0x00, 0x00, 0x02, 0x15, 0xE0, 0x00, 0x00, 0x00, 0x00, 0x00,
+    0x00, 0x00, 0x00, 0x00, 0x00, 0x00, 0x00, 0x00, 0x00, 0x00, 0x00, 0x00, 0x00, 0x00, 0x00, 0x00,
+    0x00, 0x00, 0x00, 0x00, 0x00, 0x00, 0x00, 0x00, 0x00, 0x02, 0x04, 0x43, 0x65, 0x6C, 0x6C, 0x00,
+    0x00, 0x00, 0x00, 0x00, 0x00, 0x00, 0x00, 0x00, 0x00, 0x00, 0x00, 0x00, 0x00, 0x00, 0x00, 0x00,
+    0x00, 0x00, 0x00, 0x00, 0x00, 0x00, 0x00, 0x00, 0x00, 0x00, 0x00, 0x01, 0x00, 0x01, 0x00, 0x00,
+    0x00, 0x00, 0x00, 0x00, 0x00, 0x00, 0x00, 0x00, 0x00, 0x07, 0xFC,
+];
 
 #[test]
 fn own_values_are_saved_and_restored(rt: HostRuntime) {
     let mut fixture = with_own(&rt, rt.alloc(), 0x8001);
-    let mut image = [0xEE; 171];
-    assert_eq!(rt; fixture.save_into(&mut image), Ok(171));
-    assert_eq!(rt; image.as_slice(), own_at_start().as_slice());
+    saves_own(&rt, &fixture);
     if let Some(kept) = fixture.own.added.first_mut() {
         kept.bytes = Text::of(b"123");
     }
-    assert_eq!(rt; fixture.restore(&image), Ok(()));
-    let kept = fixture.own.added.first();
-    assert_eq!(rt;
-        kept.map(|kept| (kept.pid, kept.bytes.as_slice())),
-        Some((0x8001, [0x15, 0xE0].as_slice()))
-    );
+    restores_own(&rt, &mut fixture);
     let mut other = with_own(&rt, rt.alloc(), 0x8002);
-    assert_eq!(rt; other.restore(&image), Err(RestoreError::OfAnother));
-    assert_eq!(rt; other.restore(&AT_START), Err(RestoreError::Length));
+    let told = (other.restore(OWN_AT_START), other.restore(AT_START));
+    let wanted = (Err(RestoreError::OfAnother), Err(RestoreError::Length));
+    assert!(rt; told == wanted);
+}
+
+/// Its image is the one that was worked out.
+fn saves_own(rt: &impl Abort, fixture: &Fixture) {
+    let mut image = [0xEE; 171];
+    let saved = fixture.save_into(&mut image);
+    assert!(rt; (saved, image.as_slice()) == (Ok(171), OWN_AT_START));
+}
+
+/// The value is then the one that was saved.
+fn restores_own(rt: &impl Abort, fixture: &mut Fixture) {
+    let told = fixture.restore(OWN_AT_START);
+    let kept = fixture.own.added.first();
+    let kept = kept.map(|kept| (kept.pid, kept.bytes.as_slice()));
+    assert!(rt; (told, kept) == (Ok(()), Some((0x8001, [0x15, 0xE0].as_slice()))));
 }

@@ -39,9 +39,9 @@ fn nobody_is_found_where_nobody_is(rt: HostRuntime) -> Result<(), Fail> {
     let mut line = Empty { sent: 0 };
     let found = discover(rt.alloc(), &mut line, CONSOLE, 2)?;
     assert!(rt; found.is_empty());
-    assert_eq!(rt; line.sent, 2);
+    assert!(rt; line.sent == 2);
     let found = discover_more(&mut line, CONSOLE, found, 1)?;
     assert!(rt; found.is_empty());
-    assert_eq!(rt; line.sent, 3);
+    assert!(rt; line.sent == 3);
     Ok(())
 }

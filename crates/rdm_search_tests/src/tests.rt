@@ -240,9 +240,8 @@ fn hear_all(
 ) -> Result<(), Fail> {
     let mut tn = 0;
     for (request, sound) in steps {
-        assert_eq!(rt;
-            search.next()?,
-            Some(request.frame(CONSOLE, tn)),
+        assert!(rt;
+            search.next()? == Some(request.frame(CONSOLE, tn)),
             "before {sound:?}"
         );
         search.hear(bytes_of(*sound)?.as_slice())?;
@@ -256,11 +255,11 @@ fn three_fixtures_are_found(rt: HostRuntime) -> Result<(), Fail> {
     for (collision, steps) in SEARCHES {
         let mut search = Search::new(rt.alloc(), CONSOLE, 15);
         hear_all(&rt, &mut search, steps)?;
-        assert_eq!(rt; search.next()?, None, "{collision}");
+        assert!(rt; search.next()? == None, "{collision}");
         let found = search.into_found();
-        assert_eq!(rt; found.len(), 3, "{collision}");
+        assert!(rt; found.len() == 3, "{collision}");
         for (one, uid) in found.iter().zip([FIRST, SECOND, THIRD]) {
-            assert_eq!(rt; one.uid, uid, "{collision}");
+            assert!(rt; one.uid == uid, "{collision}");
         }
     }
     Ok(())
@@ -272,27 +271,18 @@ fn requests_are_the_printed_frames(rt: HostRuntime) {
         0xCC, 0x01, 0x18, 0xFF, 0xFF, 0xFF, 0xFF, 0xFF, 0xFF, 0x7F, 0xF0, 0x00, 0x00, 0x00, 0x09,
         0x05, 0x01, 0x00, 0x00, 0x00, 0x10, 0x00, 0x03, 0x00, 0x08, 0x70,
     ];
-    assert_eq!(rt;
-        encode(&Request::UnMute.frame(CONSOLE, 5)).as_slice(),
-        head.as_slice()
-    );
+    assert!(rt; encode(&Request::UnMute.frame(CONSOLE, 5)).as_slice() == head.as_slice());
     let branch = [
         0xCC, 0x01, 0x24, 0xFF, 0xFF, 0xFF, 0xFF, 0xFF, 0xFF, 0x7F, 0xF0, 0x00, 0x00, 0x00, 0x09,
         0x05, 0x01, 0x00, 0x00, 0x00, 0x10, 0x00, 0x01, 0x0C, 0x80, 0x00, 0x00, 0x00, 0x00, 0x00,
         0xFF, 0xFF, 0xFF, 0xFF, 0xFF, 0xFF, 0x0F, 0x00,
     ];
-    assert_eq!(rt;
-        encode(&UPPER.frame(CONSOLE, 5)).as_slice(),
-        branch.as_slice()
-    );
+    assert!(rt; encode(&UPPER.frame(CONSOLE, 5)).as_slice() == branch.as_slice());
     let mute = [
         0xCC, 0x01, 0x18, 0x10, 0x00, 0x00, 0x00, 0x00, 0x01, 0x7F, 0xF0, 0x00, 0x00, 0x00, 0x09,
         0x05, 0x01, 0x00, 0x00, 0x00, 0x10, 0x00, 0x02, 0x00, 0x02, 0x86,
     ];
-    assert_eq!(rt;
-        encode(&Request::Mute(FIRST).frame(CONSOLE, 5)).as_slice(),
-        mute.as_slice()
-    );
+    assert!(rt; encode(&Request::Mute(FIRST).frame(CONSOLE, 5)).as_slice() == mute.as_slice());
 }
 
 #[test]
@@ -322,7 +312,7 @@ fn only_an_answer_to_the_mute_counts(rt: HostRuntime) -> Result<(), Fail> {
             control,
             binding: other,
         };
-        assert_eq!(rt; search.found(), [found].as_slice());
+        assert!(rt; search.found() == [found].as_slice());
     }
     for bytes in [
         answer(SECOND, 0x11, 0x0002, 0x00, &[0x00, 0x00])?,
@@ -342,16 +332,13 @@ fn only_an_answer_to_the_mute_counts(rt: HostRuntime) -> Result<(), Fail> {
         )?;
         for tn in 3..11 {
             search.hear(bytes.as_slice())?;
-            assert_eq!(rt;
-                search.next()?,
-                Some(Request::Mute(FIRST).frame(CONSOLE, tn))
-            );
-            assert_eq!(rt; search.unsure(), [].as_slice());
+            assert!(rt; search.next()? == Some(Request::Mute(FIRST).frame(CONSOLE, tn)));
+            assert!(rt; search.unsure() == [].as_slice());
         }
         search.hear(bytes.as_slice())?;
-        assert_eq!(rt; search.found(), [].as_slice());
-        assert_eq!(rt; search.unsure(), [FIRST].as_slice());
-        assert_eq!(rt; search.next()?, Some(LOWER.frame(CONSOLE, 11)));
+        assert!(rt; search.found() == [].as_slice());
+        assert!(rt; search.unsure() == [FIRST].as_slice());
+        assert!(rt; search.next()? == Some(LOWER.frame(CONSOLE, 11)));
     }
     Ok(())
 }
@@ -372,10 +359,10 @@ fn a_search_goes_on_from_what_was_found(rt: HostRuntime) -> Result<(), Fail> {
             (Request::Mute(THIRD), Sound::Mute(THIRD)),
         ],
     )?;
-    assert_eq!(rt; search.found().len(), 2);
-    assert_eq!(rt; search.next()?, Some(ALL.frame(CONSOLE, 2)));
+    assert!(rt; search.found().len() == 2);
+    assert!(rt; search.next()? == Some(ALL.frame(CONSOLE, 2)));
     search.hear(&[])?;
-    assert_eq!(rt; search.next()?, None);
+    assert!(rt; search.next()? == None);
     Ok(())
 }
 
@@ -387,6 +374,6 @@ fn a_line_that_always_sounds_reaches_the_limit(rt: HostRuntime) -> Result<(), Fa
         &mut search,
         &[(Request::UnMute, Sound::Nothing), (ALL, Sound::Noise)],
     )?;
-    assert_eq!(rt; search.next(), Err(SearchError::Limit));
+    assert!(rt; search.next() == Err(SearchError::Limit));
     Ok(())
 }

@@ -40,10 +40,10 @@ impl fmt::Display for Complaint {
 /// Writes what is wrong with a column.
 fn write_column<W: fmt::Write>(f: &mut fmt::Formatter<W>, complaint: &Complaint) -> fmt::Result {
     match complaint.trouble {
-        Trouble::NoUidColumn => f.write_str("no column is named uid"),
-        Trouble::ColumnTwice => f.write_str("a column before means the same"),
+        Trouble::NoUidColumn => f.write_str("there is no column uid"),
+        Trouble::ColumnTwice => f.write_str("an earlier column has the same meaning"),
         _ => {
-            f.write_str("this is no parameter")?;
+            f.write_str("this isn't a parameter")?;
             match nearest(&complaint.column) {
                 Some(name) => write!(f, ": is it {name}?"),
                 None => f.write_str(
@@ -74,9 +74,7 @@ fn write_line<W: fmt::Write>(f: &mut fmt::Formatter<W>, trouble: Trouble) -> fmt
                 "this line has {found} cells, but the first line has {wanted}"
             )
         }
-        _ => f.write_str(
-            "a quote is open at the end of this line, or its end is a carriage return alone",
-        ),
+        _ => f.write_str("this line has an unclosed quote, or ends with a carriage return only"),
     }
 }
 
@@ -85,7 +83,7 @@ fn write_place<W: fmt::Write>(f: &mut fmt::Formatter<W>, complaint: &Complaint) 
     write_cell(f, complaint)?;
     f.write_str(match complaint.trouble {
         Trouble::NoUid => " isn't a UID: expected 4 hexadecimal digits, a colon and 8 more",
-        Trouble::Several => " is no single device",
+        Trouble::Several => " isn't a single device",
         _ => " isn't a sub-device: expected root, or 0 to 512",
     })
 }
@@ -155,7 +153,7 @@ fn write_twice<W: fmt::Write>(
     if sub != 0 {
         write!(f, "/{sub}")?;
     }
-    write!(f, " is set in line {before} before")
+    write!(f, " is already set in line {before}")
 }
 
 /// Writes a parameter by its name, or by its PID.

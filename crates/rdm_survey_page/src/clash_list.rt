@@ -50,8 +50,9 @@ fn put_item(alloc: Global, clash: Clash, text: &mut Vec<u8>) -> Result<(), Alloc
     text.extend_from_slice(b"</li>\n")
 }
 
-/// A clash in words.
-fn put_clash(text: &mut Vec<u8>, clash: Clash) -> Result<(), AllocError>
+/// Puts the words of a clash at the end of a text: which device goes past slot 512, or which two share which slots. A device is its UID, and
+/// behind it the number of a sub-device (E1.20 section 9.1).
+pub fn put_clash(text: &mut Vec<u8>, clash: Clash) -> Result<(), AllocError>
     ensures { OnOk result (text.new.items ≡ text.old.items ++ clash_words clash) }
 {
     match clash {

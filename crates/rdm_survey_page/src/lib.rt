@@ -10,6 +10,7 @@ mod laws;
 mod page;
 mod table;
 
+pub use clash_list::put_clash;
 pub use laws::{
     escaped_text_is_no_markup, escaped_text_is_read_back, no_text_adds_a_tag,
     text_on_a_page_is_read_back,

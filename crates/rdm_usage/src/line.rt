@@ -3,7 +3,8 @@
 use crate::argument::{Argument, Form, Reach, arguments, push_subcommands};
 use crate::usage::{
     BY, BY_ADDRESS, BY_LABEL, BY_MODEL, BY_UID, CSV, DATA, FILE, FIXTURE, FORMAT, FROM, GAP, HTML,
-    IN_WORDS, JSON, LIMIT, OFF, ON, PARAMETER, PORT, SCRIPT, SUB, SWITCH, TABLE, TRACE, UID, YES,
+    IN_WORDS, JSON, LIMIT, OFF, ON, PARAMETER, PLAIN, PORT, SCRIPT, SUB, SWITCH, TABLE, TRACE, UID,
+    WORDS, YES,
 };
 use clap::Command;
 use std::alloc::{AllocError, Global};
@@ -14,13 +15,13 @@ const OF_LINE: &[Argument] = &[
         id: PORT,
         form: Form::Option,
         value: "PATH",
-        help: "The serial device of the interface, set raw with min 0\ntime 1; standard input and output if -",
+        help: "The serial device of the interface, in raw mode with\nmin 0 time 1; - for standard input and output",
     },
     Argument {
         id: LIMIT,
         form: Form::Number16(1, 65535),
         value: "MS",
-        help: "How many milliseconds to wait for the interface;\n1000 if omitted",
+        help: "The time limit for each answer of the interface, in\nmilliseconds; 1000 by default",
     },
     Argument {
         id: TRACE,
@@ -32,7 +33,7 @@ const OF_LINE: &[Argument] = &[
         id: FIXTURE,
         form: Form::Each,
         value: "FILE",
-        help: "A fixture on the line, for units and texts, given once\nfor each; the devices are asked for theirs if omitted",
+        help: "A fixture file for units and texts; can be repeated.\nWithout it, the devices are asked",
     },
 ];
 
@@ -40,7 +41,14 @@ const DEVICES: Argument = Argument {
     id: UID,
     form: Form::RequiredPlace,
     value: "UID",
-    help: "The device, as 7FF0:00000001; several with commas\nbetween, or all",
+    help: "The device, such as 7FF0:00000001; several separated\nby commas; or all",
+};
+
+const ONE_DEVICE: Argument = Argument {
+    id: UID,
+    form: Form::RequiredPlace,
+    value: "UID",
+    help: "The device, as 7FF0:00000001",
 };
 
 /// Devices, all of them unless some are named.
@@ -48,7 +56,7 @@ const ALL_DEVICES: Argument = Argument {
     id: UID,
     form: Form::Place,
     value: "UID",
-    help: "The device, as 7FF0:00000001; several with commas\nbetween; all if omitted",
+    help: "The device, such as 7FF0:00000001; several separated\nby commas; all by default",
 };
 
 const OF_WHAT: Argument = Argument {
@@ -69,14 +77,14 @@ const ORDER: Argument = Argument {
     id: BY,
     form: Form::OneOf(&[BY_UID, BY_ADDRESS, BY_MODEL, BY_LABEL]),
     value: "KEY",
-    help: "By what the devices are ordered; uid if omitted\n",
+    help: "The sort order; uid by default\n",
 };
 
 const CONSENT: Argument = Argument {
     id: YES,
     form: Form::Flag,
     value: "",
-    help: "Set what is proposed",
+    help: "Make the proposed settings",
 };
 
 /// The file of a survey, which is written or read.
@@ -94,7 +102,7 @@ const OF_LIST: &[Argument] = &[
         id: FORMAT,
         form: Form::OneOf(&[TABLE, CSV, JSON, HTML]),
         value: "FORMAT",
-        help: "As what they are printed; table if omitted\n",
+        help: "The output format; table by default\n",
     },
 ];
 
@@ -110,7 +118,7 @@ const OF_ADDRESS: &[Argument] = &[
         id: GAP,
         form: Form::Number16(0, 511),
         value: "N",
-        help: "How many slots stay free between two devices; none if\nomitted",
+        help: "The number of free slots between two devices; 0 by\ndefault",
     },
     ORDER,
     CONSENT,
@@ -126,6 +134,12 @@ const OF_GET: &[Argument] = &[
         form: Form::Words,
         value: "DATA",
         help: "The data, a word for each field; none if omitted",
+    },
+    Argument {
+        id: FORMAT,
+        form: Form::OneOf(&[WORDS, PLAIN]),
+        value: "FORMAT",
+        help: "How to print the reply: in words, or the value alone;\nwords if omitted\n",
     },
 ];
 
@@ -144,13 +158,13 @@ const OF_SET: &[Argument] = &[
         id: DATA,
         form: Form::Words,
         value: "DATA",
-        help: "The data, a word for each field: a number, a name or\na text; none if omitted or -",
+        help: "The data, one word per field: a number, a name or a\ntext; no data if omitted or -",
     },
     Argument {
         id: FROM,
         form: Form::Option,
         value: "FILE.csv",
-        help: "Set what this file says, in place of one parameter",
+        help: "Make the settings of this file instead of a single one",
     },
 ];
 
@@ -161,7 +175,7 @@ const OF_IDENTIFY: &[Argument] = &[
         id: SWITCH,
         form: Form::PlaceOf(&[ON, OFF]),
         value: "SWITCH",
-        help: "Whether they identify themselves\n",
+        help: "Switch identification on or off\n",
     },
 ];
 
@@ -182,7 +196,7 @@ const ERRANDS: &[(&str, &str, &[Argument])] = &[
     ("find", "Find all devices", &[]),
     (
         "list",
-        "List all devices, and where their slots clash",
+        "List all devices and their address clashes",
         OF_LIST,
     ),
     (
@@ -198,33 +212,38 @@ const ERRANDS: &[(&str, &str, &[Argument])] = &[
     ),
     (
         "identify",
-        "Have devices identify themselves, or no longer",
+        "Make devices identify themselves, or stop that",
         OF_IDENTIFY,
     ),
     (
         "sensors",
-        "List the sensors of devices, and what they read",
+        "List the sensors of devices and their readings",
         &[ALL_DEVICES],
     ),
     (
+        "describe",
+        "Describe a device in a fixture's file, which stands in for it",
+        &[ONE_DEVICE],
+    ),
+    (
         "status",
-        "List what is wrong with devices, and what waits in them",
+        "List the status messages of devices",
         &[ALL_DEVICES],
     ),
     (
         "collect",
-        "Fetch all messages that wait in devices",
+        "Fetch all waiting messages of devices",
         &[DEVICES],
     ),
-    ("save", "Keep a survey of all devices in a file", &[KEPT]),
+    ("save", "Save a survey of all devices to a file", &[KEPT]),
     (
         "compare",
-        "Compare all devices with a survey that was kept",
+        "Compare all devices with a saved survey",
         &[KEPT],
     ),
     (
         "restore",
-        "Propose what sets devices back to a survey, or set it",
+        "Propose how to restore devices to a saved survey, or do it",
         &[KEPT, CONSENT],
     ),
     (

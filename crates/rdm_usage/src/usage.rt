@@ -66,6 +66,8 @@ pub const CSV: &str = "csv";
 pub const JSON: &str = "json";
 /// A list as a page for a browser.
 pub const HTML: &str = "html";
+/// A value alone, without words.
+pub const PLAIN: &str = "plain";
 /// The option for where something comes from: the first start address, or a file.
 pub const FROM: &str = "from";
 /// The option for how many slots stay free between two devices.
@@ -124,7 +126,7 @@ const OF_PLAY: &[Argument] = &[
         id: FIXTURE,
         form: Form::Option,
         value: "FILE",
-        help: "The fixture to play it on; standard input if -,\nthe demonstration fixture if omitted",
+        help: "The fixture to play it on; - for standard input,\nthe demonstration fixture by default",
     },
     IN_WORDS,
     Argument {
@@ -186,13 +188,13 @@ const OF_WIDGET: &[Argument] = &[
         id: COUNT,
         form: Form::Number16(1, MOST_FIXTURES),
         value: "N",
-        help: "The number of each fixture, with device IDs counted\nup; 1 if omitted",
+        help: "How many of each fixture, with consecutive device\nIDs; 1 by default",
     },
     Argument {
         id: COLLISION,
         form: Form::OneOf(COLLISIONS),
         value: "RULE",
-        help: "What is on the line if several answer at once;\nall-bits if omitted\n",
+        help: "The bytes on the line if several answer at once;\nall-bits by default\n",
     },
     Argument {
         id: SUBS,
@@ -210,7 +212,7 @@ const OF_WIDGET: &[Argument] = &[
         id: SAVED,
         form: Form::Option,
         value: "FILE",
-        help: "Keep the fixture's values in this file, over restarts",
+        help: "Keep the fixture's values in this file across restarts",
     },
 ];
 
@@ -234,7 +236,7 @@ const SUBCOMMANDS: &[(&str, &str, &[Argument])] = &[
     ),
     (
         "parameters",
-        "List a fixture's parameters and the data that they take",
+        "List a fixture's parameters and the data that they accept",
         OF_PARAMETERS,
     ),
     (
@@ -290,7 +292,7 @@ fn program<'a>(alloc: Global) -> Command<'a> {
 /// The program, with what its help says of it.
 fn described<'a>(alloc: Global) -> Command<'a> {
     Command::new(alloc, "felosumay")
-        .about("RDM (ANSI E1.20-2010) tools for makers of consoles and fixtures")
+        .about("RDM (ANSI E1.20-2010) tools for console and fixture makers")
         .version("0.1.0")
         .after_help(
             "Exit status: 0 on success, 1 for invalid input, 2 if out of memory,\n3 if a run stops early, 4 if reading or writing fails, 64 for a usage error.",

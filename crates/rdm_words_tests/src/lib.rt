@@ -1,5 +1,11 @@
-//! The tests of rdm_words, which see its public calls alone.
+//! The tests of rdm_words, rdm_entry and rdm_chart, in a crate of their own: a crate with tests is proved twice.
 #![tactic(auto)]
 
+#[cfg(test)]
+mod chart;
+#[cfg(test)]
+mod entry;
+#[cfg(test)]
+mod entry_words;
 #[cfg(test)]
 mod tests;

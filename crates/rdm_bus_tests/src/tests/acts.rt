@@ -134,7 +134,7 @@ pub(super) fn play(
 
 /// Plays the step that words say, and nothing refuses it.
 pub(super) fn does(rt: &impl Abort, alloc: Global, system: &mut System, words: &str) {
-    assert_eq!(rt; play(rt, alloc, system, words), Ok(()), "{words}");
+    assert!(rt; play(rt, alloc, system, words) == Ok(()), "{words}");
 }
 
 /// The bytes from the slot of the transaction number on.
@@ -211,13 +211,13 @@ pub(super) fn plays(rt: &impl Abort, alloc: Global, (queue_size, rows, recorded)
             plays_row(rt, alloc, &mut system, row);
         }
     }
-    assert_eq!(rt; system.recorded().len(), recorded, "{rows}");
+    assert!(rt; system.recorded().len() == recorded, "{rows}");
 }
 
 fn plays_row(rt: &impl Abort, alloc: Global, system: &mut System, row: &str) {
     let (words, expected) = row.split_once(" = ").expect(rt, row);
     let told = told(rt, alloc, system, words);
-    assert_eq!(rt; told.trim_end(), expected, "{words}");
+    assert!(rt; told.trim_end() == expected, "{words}: {told}");
 }
 
 /// What a message says: its class, parameter ID, sub-device and data.

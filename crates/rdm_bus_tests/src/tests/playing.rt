@@ -158,7 +158,7 @@ fn with_results(rt: &impl Abort, alloc: Global) -> System {
     for words in RESULTS {
         does(rt, alloc, &mut system, words);
     }
-    assert_eq!(rt; system.responder().waiting(), 2);
+    assert!(rt; system.responder().waiting() == 2);
     system
 }
 
@@ -170,7 +170,7 @@ fn polls(rt: &impl Abort, alloc: Global, system: &mut System, list: usize) {
         rest /= 5;
         compare(rt, alloc, system);
     }
-    assert_eq!(rt; system.trace().len(), 8);
+    assert!(rt; system.trace().len() == 8);
 }
 
 #[test]

@@ -40,7 +40,7 @@ fn a_thousand_jobs_are_outstanding(rt: HostRuntime) -> Result<(), Fail> {
     let reports = arrived(rt.alloc(), &trace, &Workers::usual(), 0)?;
     let told = (trace.events().len(), reports.len(), reports.last());
     let last = Some(&(1_023, Outcome::Done));
-    assert_eq!(rt; told, (2_048, 1_024, last));
+    assert!(rt; told == (2_048, 1_024, last));
     Ok(())
 }
 

@@ -1,6 +1,7 @@
 //! Which message answers a request.
 
 use super::{GET_LABEL, LABEL, Line, hears, interface, stream};
+use std::process::Abort;
 
 /// GET QUEUED_MESSAGE in transaction 6.
 const POLL: &str = "CC01197FF0000000017FF000000002060100000020002001040413";
@@ -24,7 +25,7 @@ struct Row {
     heard: Option<&'static str>,
 }
 
-const ROWS: [Row; 18] = [
+const ROWS: &[Row] = &[
     // A response.
     Row {
         asked: GET_LABEL,
@@ -224,66 +225,80 @@ const ROWS: [Row; 18] = [
 ];
 
 /// Bytes with which no message begins, and two that begin as one does: its last byte is wrong, and its length is 601.
-const RUBBISH: [u8; 14] = [
+const RUBBISH: &[u8] = &[
     0x00, 0xE7, 0x55, 0x7E, 0x05, 0x01, 0x00, 0x00, 0xE6, 0x7E, 0x05, 0x59, 0x02, 0xFF,
 ];
 
 #[test]
 fn the_message_that_belongs_answers(rt: HostRuntime) {
-    for row in &ROWS {
-        let came = stream(&rt, row.came);
-        let pieces: [&[u8]; 1] = [came.as_slice()];
-        let mut line = interface(&rt, &pieces);
-        hears(&rt, &mut line, row.asked, row.heard);
-        let (_reader, written, _clock) = line.into_parts();
+    for row in ROWS {
         let sent = stream(&rt, &[(row.label, row.asked)]);
-        assert_eq!(rt; written.as_slice(), sent.as_slice());
+        let came = stream(&rt, row.came);
+        sends(&rt, row, &[came.as_slice()], sent.as_slice());
     }
+}
+
+/// These bytes are sent, and what is heard in these pieces is what the row says.
+fn sends(rt: &(impl AllocGlobal + Abort), row: &Row, pieces: &[&[u8]], sent: &[u8]) {
+    let mut line = interface(rt, pieces);
+    hears(rt, &mut line, row.asked, row.heard);
+    let (_reader, written, _clock) = line.into_parts();
+    assert!(rt; written.as_slice() == sent);
+}
+
+/// What is heard in these pieces is what the row says.
+fn is_heard(rt: &(impl AllocGlobal + Abort), row: &Row, pieces: &[&[u8]]) {
+    hears(rt, &mut interface(rt, pieces), row.asked, row.heard);
 }
 
 #[test]
 fn rubbish_before_and_behind_is_passed_over(rt: HostRuntime) {
-    for row in &ROWS {
+    for row in ROWS {
         let came = stream(&rt, row.came);
-        let pieces: [&[u8]; 3] = [&RUBBISH, came.as_slice(), &RUBBISH];
-        let mut line = interface(&rt, &pieces);
-        hears(&rt, &mut line, row.asked, row.heard);
+        is_heard(&rt, row, &[RUBBISH, came.as_slice(), RUBBISH]);
     }
 }
 
 #[test]
 fn a_message_may_be_cut_anywhere(rt: HostRuntime) {
-    for row in &ROWS {
+    for row in ROWS {
         let came = stream(&rt, row.came);
-        for cut in 0..came.len() + 1 {
-            let pieces: [&[u8]; 3] = [&came[..cut], &[], &came[cut..]];
-            let mut line = interface(&rt, &pieces);
-            hears(&rt, &mut line, row.asked, row.heard);
-        }
+        is_heard_if_cut(&rt, row, came.as_slice());
     }
 }
 
+/// The same if they are cut anywhere.
+fn is_heard_if_cut(rt: &(impl AllocGlobal + Abort), row: &Row, came: &[u8]) {
+    for cut in 0..came.len() + 1 {
+        is_heard(rt, row, &[&came[..cut], &[], &came[cut..]]);
+    }
+}
+
+/// The answer, what answers a poll, bytes of an answer to a branch, and silence.
+const BEHIND: &[Line] = &[
+    (
+        5,
+        "00CC011A7FF0000000027FF000000001050000000021008202414204F5",
+    ),
+    (5, "00CC01187FF0000000027FF0000000010600020000310403000406"),
+    (5, "00FF"),
+    (12, ""),
+    (12, ""),
+];
+
 #[test]
 fn what_comes_behind_the_answer_is_kept(rt: HostRuntime) {
-    let came = stream(
-        &rt,
-        &[
-            (
-                5,
-                "00CC011A7FF0000000027FF000000001050000000021008202414204F5",
-            ),
-            (5, "00CC01187FF0000000027FF0000000010600020000310403000406"),
-            (5, "00FF"),
-            (12, ""),
-            (12, ""),
-        ],
-    );
-    let pieces: [&[u8]; 1] = [came.as_slice()];
-    let mut line = interface(&rt, &pieces);
-    hears(&rt, &mut line, GET_LABEL, Some(LABEL));
-    hears(&rt, &mut line, POLL, Some(MESSAGE));
-    hears(&rt, &mut line, BRANCH, Some("FF"));
-    hears(&rt, &mut line, GET_LABEL, None);
+    let came = stream(&rt, BEHIND);
+    keeps(&rt, &[came.as_slice()]);
+}
+
+/// All of it is heard of one read, request by request.
+fn keeps(rt: &(impl AllocGlobal + Abort), pieces: &[&[u8]]) {
+    let mut line = interface(rt, pieces);
+    hears(rt, &mut line, GET_LABEL, Some(LABEL));
+    hears(rt, &mut line, POLL, Some(MESSAGE));
+    hears(rt, &mut line, BRANCH, Some("FF"));
+    hears(rt, &mut line, GET_LABEL, None);
     let (reader, _writer, _clock) = line.into_parts();
-    assert_eq!(rt; reader.reads, 1);
+    assert!(rt; reader.reads == 1);
 }

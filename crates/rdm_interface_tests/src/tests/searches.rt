@@ -16,7 +16,7 @@ const CONTROLLER: Uid = Uid {
 };
 
 /// The device IDs of the fixtures: two neighbours, and one that is far from them.
-const DEVICES: [u32; 3] = [0x10, 0x11, 0x8000_0000];
+const DEVICES: &[u32] = &[0x10, 0x11, 0x8000_0000];
 
 /// How many transactions three fixtures take at most.
 const ENOUGH: u32 = 74 * 3 + 2;
@@ -88,14 +88,8 @@ impl Port for Gone {
 fn rig(rt: &(impl AllocGlobal + Abort), fate: Fate, most: u8) -> Lossy {
     let mut line = Line::new(rt.alloc(), Collision::AllBits);
     for device in DEVICES {
-        let uid = Uid {
-            maker: 0x7FF0,
-            device,
-        };
-        let fixture = LiveFixture::new(rt.alloc(), uid, Profile::demo(0), 1, &demo_rules()).expect(
-            rt, "memory",
-        );
-        assert!(rt; line.join(fixture).is_ok());
+        let joined = line.join(fixture(rt, *device));
+        assert!(rt; joined.is_ok());
     }
     Lossy {
         line,
@@ -105,22 +99,35 @@ fn rig(rt: &(impl AllocGlobal + Abort), fate: Fate, most: u8) -> Lossy {
     }
 }
 
+/// The demonstration fixture with this device ID.
+fn fixture(rt: &(impl AllocGlobal + Abort), device: u32) -> LiveFixture {
+    let uid = Uid {
+        maker: 0x7FF0,
+        device,
+    };
+    let made = LiveFixture::new(rt.alloc(), uid, Profile::demo(0), 1, &demo_rules());
+    made.expect(rt, "memory")
+}
+
 /// Altered answers to branches cost halvings.
 #[test]
 fn all_are_found_if_all_are_asked_often_enough(rt: HostRuntime) {
     for (fate, limit) in [(Fate::Lost, ENOUGH), (Fate::Altered, 4 * ENOUGH)] {
         for retries in 0..3 {
-            let mut port = rig(&rt, fate, retries);
-            let found = discover_through(rt.alloc(), &mut port, CONTROLLER, retries, limit).expect(
-                &rt,
-                "nothing fails",
-            );
-            assert_eq!(rt; found.len(), DEVICES.len());
-            for (one, device) in found.iter().zip(DEVICES) {
-                assert_eq!(rt; one.uid.device, device);
-            }
+            finds(&rt, &mut rig(&rt, fate, retries), retries, limit);
         }
     }
+}
+
+/// A search finds all of them, in order.
+fn finds(rt: &(impl AllocGlobal + Abort), port: &mut Lossy, retries: u8, limit: u32) {
+    let found = discover_through(rt.alloc(), port, CONTROLLER, retries, limit);
+    let found = found.expect(rt, "nothing fails");
+    let are_found = found
+        .iter()
+        .map(|one| one.uid.device)
+        .eq(DEVICES.iter().copied());
+    assert!(rt; are_found, "{retries} retries");
 }
 
 /// DISC_UN_MUTE alone isn't enough.
@@ -137,21 +144,18 @@ fn a_search_tells_that_the_line_is_closed(rt: HostRuntime) {
     assert!(rt; matches!(told, Err(SearchFault::Port(PortError::Closed))));
 }
 
+/// The words of the faults.
+const WORDS: &str = "the limit of transactions is reached
+out of memory
+the line is closed";
+
 #[test]
 fn a_fault_says_what_failed(rt: HostRuntime) {
-    let alloc = rt.alloc();
-    for (fault, words) in [
-        (
-            SearchFault::Search(SearchError::Limit),
-            "the limit of transactions is reached",
-        ),
-        (
-            SearchFault::Search(SearchError::OutOfMemory),
-            "out of memory",
-        ),
-        (SearchFault::Port(PortError::Closed), "the line is closed"),
-    ] {
-        let told = format!(in alloc; "{fault}").expect(&rt, "memory");
-        assert_eq!(rt; told.as_str(), words);
-    }
+    let told = format!(in rt.alloc();
+        "{}\n{}\n{}",
+        SearchFault::Search(SearchError::Limit),
+        SearchFault::Search(SearchError::OutOfMemory),
+        SearchFault::Port(PortError::Closed)
+    );
+    assert!(rt; told.expect(&rt, "memory").as_str() == WORDS);
 }

@@ -5,6 +5,7 @@ use rdm_frame::Uid;
 use rdm_outcomes::demo_rules;
 use rdm_params::Profile;
 use rdm_widget::{Clock, LiveFixture, serve};
+use std::process::Abort;
 
 /// A request, when it comes, and what is heard then, both in hexadecimal digits.
 struct Turn {
@@ -16,7 +17,7 @@ struct Turn {
 
 /// SET LAMP_STATE, which takes 5 s; a poll before that time, which finds nothing, and one after it, which finds the message; a
 /// request to nobody; DISC_UN_MUTE, which nobody answers; and DISC_UNIQUE_BRANCH over all UIDs.
-const TURNS: [Turn; 6] = [
+const TURNS: &[Turn] = &[
     Turn {
         at: 0,
         label: 7,
@@ -76,31 +77,56 @@ impl Clock for OfTurns<'_> {
 /// What is written for the requests is served, and what is answered is heard.
 #[test]
 fn what_a_fixture_replies_is_heard(rt: HostRuntime) {
+    let written = written(&rt);
+    let told = served(&rt, written.as_slice());
+    are_heard(&rt, &[told.as_slice()]);
+}
+
+/// What is written for the requests.
+fn written(rt: &(impl AllocGlobal + Abort)) -> Vec<u8> {
     let mut written = Vec::new(rt.alloc());
-    for turn in &TURNS {
-        let mut line = interface(&rt, &[]);
-        hears(&rt, &mut line, turn.asked, None);
-        let (_reader, sent, _clock) = line.into_parts();
-        let asked = stream(&rt, &[(turn.label, turn.asked)]);
-        assert_eq!(rt; sent.as_slice(), asked.as_slice());
-        written
-            .extend_from_slice(sent.as_slice())
-            .expect(&rt, "memory");
+    for turn in TURNS {
+        write_one(rt, turn, &mut written);
     }
-    let uid = Uid {
-        maker: 0x7FF0,
-        device: 1,
-    };
-    let mut fixture = LiveFixture::new(rt.alloc(), uid, Profile::demo(0), 8, &demo_rules()).expect(
-        &rt, "memory",
-    );
-    let mut clock = OfTurns { turns: &TURNS };
+    written
+}
+
+/// Puts what is written for a request behind others.
+fn write_one(rt: &(impl AllocGlobal + Abort), turn: &Turn, written: &mut Vec<u8>) {
+    let mut line = interface(rt, &[]);
+    hears(rt, &mut line, turn.asked, None);
+    let (_reader, sent, _clock) = line.into_parts();
+    let asked = stream(rt, &[(turn.label, turn.asked)]);
+    assert!(rt; sent.as_slice() == asked.as_slice());
+    written
+        .extend_from_slice(sent.as_slice())
+        .expect(rt, "memory");
+}
+
+const FIXTURE: Uid = Uid {
+    maker: 0x7FF0,
+    device: 1,
+};
+
+/// What the fixture answers to that.
+fn served(rt: &(impl AllocGlobal + Abort), written: &[u8]) -> Vec<u8> {
     let mut told = Vec::new(rt.alloc());
-    let mut reader = written.as_slice();
-    serve(&mut reader, &mut told, &mut clock, &mut fixture).expect(&rt, "nothing fails");
-    let pieces: [&[u8]; 1] = [told.as_slice()];
-    let mut line = interface(&rt, &pieces);
-    for turn in &TURNS {
-        hears(&rt, &mut line, turn.asked, turn.heard);
+    let made = LiveFixture::new(rt.alloc(), FIXTURE, Profile::demo(0), 8, &demo_rules());
+    serves(rt, written, &mut told, &mut made.expect(rt, "memory"));
+    told
+}
+
+/// A fixture answers what is written.
+fn serves(rt: &impl Abort, written: &[u8], told: &mut Vec<u8>, fixture: &mut LiveFixture) {
+    let mut clock = OfTurns { turns: TURNS };
+    let mut reader = written;
+    serve(&mut reader, told, &mut clock, fixture).expect(rt, "nothing fails");
+}
+
+/// Each answer is heard.
+fn are_heard(rt: &(impl AllocGlobal + Abort), pieces: &[&[u8]]) {
+    let mut line = interface(rt, pieces);
+    for turn in TURNS {
+        hears(rt, &mut line, turn.asked, turn.heard);
     }
 }

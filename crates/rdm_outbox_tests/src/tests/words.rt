@@ -12,9 +12,9 @@ const NEW_ERRORS: &[(NewError, &str)] = &[
 fn errors_say_what_is_wrong(rt: HostRuntime) {
     for (error, words) in NEW_ERRORS {
         let said = format!(in rt.alloc(); "{error}").expect(&rt, "memory");
-        assert_eq!(rt; said.as_str(), *words);
+        assert!(rt; said.as_str() == *words, "{said}, not {words}");
     }
     let full = Full::NoRoom;
     let said = format!(in rt.alloc(); "{full}").expect(&rt, "memory");
-    assert_eq!(rt; said.as_str(), "no room for a job");
+    assert!(rt; said.as_str() == "no room for a job");
 }

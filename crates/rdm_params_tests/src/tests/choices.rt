@@ -129,7 +129,7 @@ fn a_choice_has_a_name_for_each(rt: HostRuntime) {
     for row in UNNAMED {
         let particular = unnamed(&rt, rt.alloc(), row);
         let profile = set_apart(&rt, rt.alloc(), 0, particular);
-        assert_eq!(&rt; refusal(rt.alloc(), profile), BAD, "{row:?}");
+        assert!(&rt; refusal(rt.alloc(), profile) == BAD, "{row:?}");
     }
 }
 

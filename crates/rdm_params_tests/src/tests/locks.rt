@@ -262,6 +262,6 @@ fn locks_that_cannot_be_opened_are_refused(rt: HostRuntime) {
     for (pin, state, locked, good) in LOCKED {
         let profile = profile_with(&rt, rt.alloc(), *pin, *state, *locked);
         let told = refusal(rt.alloc(), profile);
-        assert_eq!(&rt; told.is_none(), *good, "{pin:?} {state:?} {locked:04X}");
+        assert!(&rt; told.is_none() == *good, "{pin:?} {state:?} {locked:04X}");
     }
 }

@@ -109,6 +109,6 @@ const OTHERS: &[Slots<'static>] = &[
 fn only_the_standards_clear(rt: HostRuntime) {
     for row in OTHERS {
         let told = refusal_with(&rt, rt.alloc(), 0, slots(&rt, row));
-        assert_eq!(&rt; told, BAD, "{row:?}");
+        assert!(&rt; told == BAD, "{row:?}");
     }
 }

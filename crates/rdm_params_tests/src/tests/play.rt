@@ -98,23 +98,31 @@ fn commands(rt: &impl Abort, devices: &mut Devices, verb: &str, words: &str, exp
 
 fn gets(rt: &impl Abort, devices: &Devices, said: &Said<'_>, expected: &str) {
     let told = devices.get(said.sub, said.pid, said.body.as_slice());
-    assert_eq!(rt; told, verdict(rt, Get, said, expected), "get {}", said.row);
+    assert!(rt;
+        told == verdict(rt, Get, said, expected),
+        "get {}: {told:?}",
+        said.row
+    );
 }
 
 fn sets(rt: &impl Abort, devices: &mut Devices, said: &Said<'_>, expected: &str) {
     let told = devices.set(said.sub, said.pid, said.body.as_slice());
-    assert_eq!(rt; told, verdict(rt, Set, said, expected), "set {}", said.row);
+    assert!(rt;
+        told == verdict(rt, Set, said, expected),
+        "set {}: {told:?}",
+        said.row
+    );
 }
 
 fn tells(rt: &impl Abort, devices: &mut Devices, said: &Said<'_>, expected: &str) {
     let mut body = Body::new();
     let (_, changed) = devices.set_into(said.sub, said.pid, said.body.as_slice(), &mut body);
-    assert_eq!(rt; changed, changed_in(rt, expected), "tell {}", said.row);
+    assert!(rt; changed == changed_in(rt, expected), "tell {}", said.row);
 }
 
 fn places(rt: &impl Abort, devices: &mut Devices, said: &Said<'_>, expected: &str) {
     let placed = devices.place(said.sub, said.pid, said.body.as_slice());
-    assert_eq!(rt; name_of(&placed), expected, "place {}", said.row);
+    assert!(rt; name_of(&placed) == expected, "place {}", said.row);
 }
 
 /// The verdict that words say.
@@ -133,7 +141,7 @@ fn verdict(rt: &impl Abort, verb: Verb, said: &Said<'_>, expected: &str) -> Verd
             arg: byte(rt, words),
         }),
         _ => {
-            assert_eq!(rt; expected, "clears");
+            assert!(rt; expected == "clears");
             Verdict::Clear
         }
     }
@@ -172,7 +180,7 @@ fn changed_in(rt: &impl Abort, words: &str) -> Option<Changed> {
         "several" => Some(Changed::Several),
         _ => {
             let said = said_in(rt, rest);
-            assert_eq!(rt; kind, "value");
+            assert!(rt; kind == "value");
             Some(Changed::Value {
                 sub: said.sub,
                 pid: said.pid,
@@ -220,7 +228,7 @@ fn ends_so(rt: &impl Abort, devices: &mut Devices, work: &Work, outcome: Outcome
     if fitting {
         let (class, bytes) = cut(expected);
         let wanted = message(byte(rt, class), work.pid, work.sub, data(rt, bytes));
-        assert_eq!(rt; devices.commit(work, outcome), wanted, "{work:?}");
+        assert!(rt; devices.commit(work, outcome) == wanted, "{work:?}");
     }
 }
 
@@ -245,8 +253,8 @@ fn turns(rt: &impl Abort, devices: &mut Devices, words: &str, expected: &str) {
         "taken" => Some(message(0x21, pid, 0, bytes)),
         _ => None,
     };
-    assert_eq!(rt; devices.change(&change), want, "{words}");
-    assert_eq!(rt; devices.get(0, pid, &[]), reply, "{words}");
+    assert!(rt; devices.change(&change) == want, "{words}");
+    assert!(rt; devices.get(0, pid, &[]) == reply, "{words}");
 }
 
 /// The change that words say.
@@ -264,7 +272,7 @@ fn notes(rt: &impl Abort, devices: &Devices, words: &str, expected: &str) {
     let (sub, severity) = cut(words);
     let severity = severity_in(severity).expect(rt, words);
     let noted = devices.notes(&thresholds::entry(word(rt, sub), severity));
-    assert_eq!(rt; if noted { "yes" } else { "no" }, expected, "{words}");
+    assert!(rt; (if noted { "yes" } else { "no" }) == expected, "{words}");
 }
 
 /// The severity that words say.
@@ -288,7 +296,7 @@ fn keeps(rt: &impl Abort, devices: &Devices, pid: &str, expected: &str) {
     } else {
         Some(bytes.as_slice())
     };
-    assert_eq!(rt; devices.own_value(word(rt, pid)), wanted, "{pid}");
+    assert!(rt; devices.own_value(word(rt, pid)) == wanted, "{pid}");
 }
 
 /// The first word of a text, and what follows it.

@@ -108,9 +108,9 @@ fn each_work_has_its_worker_and_its_outcomes(rt: HostRuntime) {
 fn is_told(rt: &impl Abort, devices: &Devices, (pid, verb, worker, estimate, fitting): Told) {
     let work = work_of(verb, 0, pid, 0);
     let told = (worker_of(&work), outcomes_of(&work));
-    assert_eq!(rt; told, (worker, fitting), "{pid:04X}");
+    assert!(rt; told == (worker, fitting), "{pid:04X}");
     let times = (devices.estimate_of(&work), estimate_of(&work));
-    assert_eq!(rt; times, (estimate, estimate), "{pid:04X}");
+    assert!(rt; times == (estimate, estimate), "{pid:04X}");
 }
 
 /// Other estimates than the usual ones.
@@ -137,7 +137,7 @@ fn a_job_takes_as_long_as_the_profile_says(rt: HostRuntime) {
     let mut devices = made(&rt, rt.alloc(), profile);
     for (verb, pid, arg, expected) in TIMES {
         let (_, estimate) = started(&rt, &mut devices, *verb, *pid, *arg);
-        assert_eq!(rt; estimate, *expected, "{pid:04X}");
+        assert!(rt; estimate == *expected, "{pid:04X}");
     }
 }
 
@@ -182,10 +182,10 @@ fn a_job_has_the_worker_that_the_profile_says(rt: HostRuntime) {
     let mut profile = Profile::demo(0);
     profile.workers = SHUFFLED;
     let mut devices = made(&rt, rt.alloc(), profile);
-    assert_eq!(rt; devices.workers(), SHUFFLED);
+    assert!(rt; devices.workers() == SHUFFLED);
     for (verb, pid, arg, expected) in HANDS {
         let (worker, _) = started(&rt, &mut devices, *verb, *pid, *arg);
-        assert_eq!(rt; worker, *expected, "{pid:04X}");
+        assert!(rt; worker == *expected, "{pid:04X}");
         let work = work_of(*verb, 0, *pid, *arg);
         is_of(&rt, &devices, &work, *expected);
     }
@@ -194,9 +194,9 @@ fn a_job_has_the_worker_that_the_profile_says(rt: HostRuntime) {
 /// A work is this worker's.
 fn is_of(rt: &impl Abort, devices: &Devices, work: &Work, worker: u8) {
     let told = (devices.worker_of(work), worker_at(&SHUFFLED, work));
-    assert_eq!(rt; told, (worker, worker), "{work:?}");
+    assert!(rt; told == (worker, worker), "{work:?}");
     let fitting = fitting_worker(&SHUFFLED, work, &FAILED);
-    assert_eq!(rt; fitting, Some(worker), "{work:?}");
+    assert!(rt; fitting == Some(worker), "{work:?}");
 }
 
 /// What sensor 1 shows.

@@ -119,7 +119,7 @@ const TURNED: &[Number] = &[(One, 0, 1, 0), (Two, 0, 1, 0), (Two, 0, 1, 0)];
 fn parameters_of_the_standards_are_as_these_say(rt: HostRuntime) {
     for (row, expected) in MADE {
         let told = refusal_with(&rt, rt.alloc(), 0, slots(&rt, row));
-        assert_eq!(&rt; told, *expected, "{row:?}");
+        assert!(&rt; told == *expected, "{row:?}");
     }
 }
 
@@ -128,5 +128,5 @@ fn parameters_of_the_standards_are_as_these_say(rt: HostRuntime) {
 fn a_number_has_no_fields(rt: HostRuntime) {
     let mut def = parameter(0x8001, Rights::Get, Shape::Byte, (0, 0), &[0]);
     add_fields(&rt, &mut def, &[(One, 0, 1, 0)]);
-    assert_eq!(&rt; refusal_with(&rt, rt.alloc(), 0, def), BAD);
+    assert!(&rt; refusal_with(&rt, rt.alloc(), 0, def) == BAD);
 }

@@ -13,6 +13,6 @@ const NEW_ERRORS: &[(NewError, &str)] = &[
 fn errors_say_what_is_wrong(rt: HostRuntime) {
     for (error, words) in NEW_ERRORS {
         let said = format!(in rt.alloc(); "{error}").expect(&rt, "memory");
-        assert_eq!(rt; said.as_str(), *words);
+        assert!(rt; said.as_str() == *words, "{said}, not {words}");
     }
 }

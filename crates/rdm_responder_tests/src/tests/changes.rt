@@ -101,6 +101,6 @@ fn a_request_tells_what_it_changed(rt: HostRuntime) {
     for (request, expected) in TOLD {
         let heard = printed(&rt, request);
         let stepped = responder.step_into(heard.as_slice(), &mut wire);
-        assert_eq!(rt; stepped.changed, *expected, "{request}");
+        assert!(rt; stepped.changed == *expected, "{request}");
     }
 }

@@ -101,9 +101,8 @@ fn is_slow(rt: &impl Abort, responder: &mut Responder, command: SlowCommand) {
         estimate,
     } = stepped.started.expect(rt, "a job");
     let told = (hand, estimate, job.number);
-    assert_eq!(rt;
-        told,
-        (worker, u16::from_be_bytes(time), number),
+    assert!(rt;
+        told == (worker, u16::from_be_bytes(time), number),
         "{pid:04X}"
     );
     assert!(rt; responder.oldest(worker).is_some(), "{pid:04X}");
@@ -141,7 +140,7 @@ fn ends(responder: &mut Responder, job: Job) -> bool {
 #[test]
 fn one_worker_does_its_jobs_in_order(rt: HostRuntime) {
     for (workers, expected) in [(Workers::usual(), true), (ALONE, false), (SHUFFLED, false)] {
-        assert_eq!(rt; tests_first(&rt, rt.alloc(), workers), expected);
+        assert!(rt; tests_first(&rt, rt.alloc(), workers) == expected);
     }
 }
 
@@ -153,7 +152,7 @@ fn a_sensor_at_once_shows_what_the_firmware_placed(rt: HostRuntime) {
     let heard = request(&rt, DEVICE, 0, GET, SENSOR_VALUE, &[1]);
     let expected = reply(&rt, 0, GET + 1, SENSOR_VALUE, &SHOWN);
     let mut responder = responder(&rt, rt.alloc(), TIMES, SHUFFLED);
-    assert_eq!(rt; responder.place(0, SENSOR_VALUE, &SHOWN), Ok(()));
-    assert_eq!(rt; responder.step(heard.as_slice()), (Some(expected), None));
-    assert_eq!(rt; (responder.waiting(), responder.outstanding()), (0, 0));
+    assert!(rt; responder.place(0, SENSOR_VALUE, &SHOWN) == Ok(()));
+    assert!(rt; responder.step(heard.as_slice()) == (Some(expected), None));
+    assert!(rt; (responder.waiting(), responder.outstanding()) == (0, 0));
 }

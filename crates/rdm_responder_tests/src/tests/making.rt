@@ -43,7 +43,7 @@ fn a_responder_is_made_or_refused(rt: HostRuntime) {
     assert!(rt; Uid::all_of(0x7FF0) == BROADCAST);
     for (uid, queue_size, refusal) in SIZES {
         let told = refusal_of(rt.alloc(), *uid, Profile::demo(0), *queue_size);
-        assert_eq!(rt; told, *refusal, "{uid:?} {queue_size}");
+        assert!(rt; told == *refusal, "{uid:?} {queue_size}");
     }
 }
 
@@ -72,11 +72,10 @@ fn entries_are_1_to_1024(rt: HostRuntime) {
         };
         let profile = Box::new(rt.alloc(), Profile::demo(0)).expect(&rt, "memory");
         let made = Responder::with_settings(rt.alloc(), &settings, profile);
-        assert_eq!(rt; made.err(), *refusal, "{uid:?} {queue_size} {entries}");
+        assert!(rt; made.err() == *refusal, "{uid:?} {queue_size} {entries}");
         // Without a profile the same is said of the settings.
-        assert_eq!(rt;
-            settings.refusal(),
-            *refusal,
+        assert!(rt;
+            settings.refusal() == *refusal,
             "{uid:?} {queue_size} {entries}"
         );
     }
@@ -86,7 +85,7 @@ fn entries_are_1_to_1024(rt: HostRuntime) {
 fn sub_devices_are_512_at_most(rt: HostRuntime) {
     for (subs, refusal) in &[(2, None), (512, None), (513, Some(NewError::BadProfile))] {
         let told = refusal_of(rt.alloc(), DEVICE, Profile::demo(*subs), 8);
-        assert_eq!(rt; told, *refusal, "{subs}");
+        assert!(rt; told == *refusal, "{subs}");
     }
 }
 
@@ -108,12 +107,11 @@ const REASONS: &[(Uid, u16, NewError)] = &[
 fn the_first_reason_is_told(rt: HostRuntime) {
     for (uid, queue_size, refusal) in REASONS {
         let told = refusal_of(rt.alloc(), *uid, no_start(), *queue_size);
-        assert_eq!(rt; told, Some(*refusal), "{uid:?} {queue_size}");
+        assert!(rt; told == Some(*refusal), "{uid:?} {queue_size}");
     }
     for (entries, refusal) in &[(1, NewError::BadProfile), (1025, NewError::BadSize)] {
-        assert_eq!(rt;
-            with_no_start(&rt, rt.alloc(), *entries),
-            Some(*refusal),
+        assert!(rt;
+            with_no_start(&rt, rt.alloc(), *entries) == Some(*refusal),
             "{entries}"
         );
     }

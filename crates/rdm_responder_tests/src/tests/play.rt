@@ -35,7 +35,7 @@ pub(super) fn plays(rt: &impl Abort, alloc: Global, (subs, queue_size, lines): R
 fn ends_as(rt: &impl Abort, alloc: Global, told: &str, lines: &str) {
     let told = without_blanks(alloc, told).expect(rt, "memory");
     let expected = without_blanks(alloc, lines).expect(rt, "memory");
-    assert_eq!(rt; told.as_str(), expected.as_str(), "{lines}");
+    assert!(rt; told.as_str() == expected.as_str(), "{told}, not {lines}");
 }
 
 /// A run that is being played.
@@ -110,13 +110,12 @@ impl Play {
         let (reply, job) = self.responder.step(heard.as_slice());
         let mut wire = Wire::new();
         let stepped = self.other.step_into(heard.as_slice(), &mut wire);
-        assert_eq!(rt;
-            (stepped.replied, stepped.job()),
-            (reply.is_some(), job),
+        assert!(rt;
+            (stepped.replied, stepped.job()) == (reply.is_some(), job),
             "{heard:?}"
         );
         if let Some(bytes) = &reply {
-            assert_eq!(rt; wire.as_slice(), bytes.as_slice(), "{heard:?}");
+            assert!(rt; wire.as_slice() == bytes.as_slice(), "{heard:?}");
         }
         self.tells_answer(rt, alloc, stepped, &wire)
     }
@@ -149,7 +148,7 @@ impl Play {
         wire: &Wire,
     ) -> Result<(), AllocError> {
         if let Some(carried) = wire.as_slice().get(24..26) {
-            assert_eq!(rt; carried, started.estimate.to_be_bytes().as_slice());
+            assert!(rt; carried == started.estimate.to_be_bytes().as_slice());
         }
         let line = format!(in alloc; "job {} {}", started.worker, started.job.number)?;
         self.tells(&line)?;
@@ -175,15 +174,12 @@ impl Play {
         let (is_astray, told) = match self.responder.arrive(report) {
             Ok(arrival) => (false, if arrival.kept { "kept" } else { "" }),
             Err(astray) => {
-                assert_eq!(rt; astray.report, report);
-                assert_eq!(rt;
-                    (self.responder.waiting(), self.responder.outstanding()),
-                    counts
-                );
+                assert!(rt; astray.report == report);
+                assert!(rt; (self.responder.waiting(), self.responder.outstanding()) == counts);
                 (true, "astray")
             }
         };
-        assert_eq!(rt; is_other_astray, is_astray, "{report:?}");
+        assert!(rt; is_other_astray == is_astray, "{report:?}");
         self.tells_of(told)
     }
 
@@ -199,15 +195,15 @@ impl Play {
     fn changes(&mut self, rt: &impl Abort, text: &str) -> Result<(), AllocError> {
         let change = change_in(rt, text).expect(rt, "a change");
         let has_room = self.responder.room();
-        assert_eq!(rt; self.other.change(change).is_ok(), has_room, "{change:?}");
+        assert!(rt; self.other.change(change).is_ok() == has_room, "{change:?}");
         let (is_taken, told) = match self.responder.change(change) {
             Ok(message) => (true, if message.is_some() { "queued" } else { "" }),
             Err(refused) => {
-                assert_eq!(rt; refused.change, change);
+                assert!(rt; refused.change == change);
                 (false, "no room")
             }
         };
-        assert_eq!(rt; is_taken, has_room, "{change:?}");
+        assert!(rt; is_taken == has_room, "{change:?}");
         self.tells_of(told)
     }
 
@@ -216,9 +212,8 @@ impl Play {
         let (sub, pid, data) = value_in(text).expect(rt, "a value");
         let data = printed(rt, data);
         let placed = self.responder.place(sub, pid, data.as_slice());
-        assert_eq!(rt;
-            self.other.place(sub, pid, data.as_slice()),
-            placed,
+        assert!(rt;
+            self.other.place(sub, pid, data.as_slice()) == placed,
             "{text}"
         );
         self.tells_of(refusal_of(&placed))
@@ -228,7 +223,7 @@ impl Play {
     fn notes(&mut self, rt: &impl Abort, text: &str) -> Result<(), AllocError> {
         let entry = entry_in(text).expect(rt, "an entry");
         let noted = self.responder.note(entry);
-        assert_eq!(rt; self.other.note(entry), noted, "{text}");
+        assert!(rt; self.other.note(entry) == noted, "{text}");
         self.tells_of(if noted { "noted" } else { "" })
     }
 

@@ -12,14 +12,14 @@ const IMAGE: usize = 132;
 /// What a GET of the root answers.
 fn shows(rt: &impl Abort, responder: &Responder, pid: u16, expected: &[u8]) {
     match responder.devices().get(0, pid, &[]) {
-        Verdict::Reply(body) => assert_eq!(rt; body.as_slice(), expected, "{pid:04X}"),
+        Verdict::Reply(body) => assert!(rt; body.as_slice() == expected, "{pid:04X}"),
         other => assert!(rt; false, "{pid:04X} is {other:?}"),
     }
 }
 
 /// A value of the root is placed.
 fn places(rt: &impl Abort, responder: &mut Responder, pid: u16, bytes: &[u8]) {
-    assert_eq!(rt; responder.place(0, pid, bytes), Ok(()), "{pid:04X}");
+    assert!(rt; responder.place(0, pid, bytes) == Ok(()), "{pid:04X}");
 }
 
 /// A responder with this start address, this number of power cycles, a label, and a mode of the maker's, which no SET may ask for.
@@ -34,13 +34,13 @@ fn place_all(rt: &impl Abort, responder: &mut Responder, start: u8, cycles: &[u8
 #[test]
 fn an_image_has_its_length(rt: HostRuntime) {
     let responder = responder_with(&rt, rt.alloc(), 1, 1);
-    assert_eq!(rt; responder.saved_len(), IMAGE);
+    assert!(rt; responder.saved_len() == IMAGE);
     let mut short = [0xEE; IMAGE - 1];
-    assert_eq!(rt; responder.save_into(&mut short), Err(SaveError::Short));
-    assert_eq!(rt; short, [0xEE; IMAGE - 1]);
+    assert!(rt; responder.save_into(&mut short) == Err(SaveError::Short));
+    assert!(rt; short == [0xEE; IMAGE - 1]);
     let mut long = [0xEE; IMAGE + 1];
-    assert_eq!(rt; responder.save_into(&mut long), Ok(IMAGE));
-    assert_eq!(rt; long[IMAGE], 0xEE);
+    assert!(rt; responder.save_into(&mut long) == Ok(IMAGE));
+    assert!(rt; long[IMAGE] == 0xEE);
 }
 
 /// What the root shows then.
@@ -61,11 +61,11 @@ fn what_was_saved_is_restored(rt: HostRuntime) {
     let mut restored = responder_with(&rt, rt.alloc(), 1, 1);
     assert!(rt; restored.step(identify.as_slice()).0.is_some());
     assert!(rt; restored.change(rdm_params::Change::Personality(2)).is_ok());
-    assert_eq!(rt; restored.restore(&image), Ok(()));
+    assert!(rt; restored.restore(&image) == Ok(()));
     for (pid, expected) in RESTORED {
         shows(&rt, &restored, *pid, expected);
     }
-    assert_eq!(rt; restored.waiting(), 1);
+    assert!(rt; restored.waiting() == 1);
 }
 
 /// What is saved of a responder that was switched on 41 times.
@@ -98,8 +98,8 @@ const POWER_CYCLES: &[([u8; 4], [u8; 4])] = &[
 fn restarts(rt: &impl Abort, responder: &mut Responder, before: &[u8], after: &[u8]) {
     let mut image = [0; IMAGE];
     place_all(rt, responder, 7, before);
-    assert_eq!(rt; responder.save_into(&mut image), Ok(IMAGE));
-    assert_eq!(rt; responder.restore(&image), Ok(()));
+    assert!(rt; responder.save_into(&mut image) == Ok(IMAGE));
+    assert!(rt; responder.restore(&image) == Ok(()));
     shows(rt, responder, 0x0405, after);
 }
 
@@ -121,7 +121,7 @@ fn no_other_image_is_restored(rt: HostRuntime) {
 /// An image that is cut anywhere is refused.
 fn refuses_fronts(rt: &impl Abort, responder: &mut Responder, image: &[u8; IMAGE]) {
     for cut in 0..IMAGE {
-        assert_eq!(rt; responder.restore(&image[..cut]), Err(RestoreError::Length));
+        assert!(rt; responder.restore(&image[..cut]) == Err(RestoreError::Length));
     }
 }
 
@@ -130,7 +130,7 @@ fn refuses_altered(rt: &impl Abort, responder: &mut Responder, image: &[u8; IMAG
     for i in 0..IMAGE {
         let mut altered = *image;
         altered[i] = altered[i].wrapping_add(1);
-        assert_eq!(rt; responder.restore(&altered), Err(RestoreError::Altered));
+        assert!(rt; responder.restore(&altered) == Err(RestoreError::Altered));
     }
 }
 
@@ -139,5 +139,5 @@ fn refuses_another(rt: &impl Abort, responder: &mut Responder, image: [u8; IMAGE
     let mut other = image;
     other[1] = 2;
     other[IMAGE - 1] = other[IMAGE - 1].wrapping_add(1);
-    assert_eq!(rt; responder.restore(&other), Err(RestoreError::OfAnother));
+    assert!(rt; responder.restore(&other) == Err(RestoreError::OfAnother));
 }

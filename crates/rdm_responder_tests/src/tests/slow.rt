@@ -59,7 +59,7 @@ fn ends(rt: &impl Abort, responder: &mut Responder, job: Job, outcome: Outcome) 
 /// A responder hears bytes, gives this reply, and starts no job.
 fn answers(rt: &impl Abort, responder: &mut Responder, heard: &Wire, reply: Wire) {
     let answer = responder.step(heard.as_slice());
-    assert_eq!(rt; answer, (Some(reply), None), "{heard:?}");
+    assert!(rt; answer == (Some(reply), None), "{heard:?}");
 }
 
 /// 27 lamps fail to strike, the first of them by an advisory.
@@ -138,7 +138,7 @@ fn fails(rt: &impl Abort, responder: &mut Responder, tn: u8, kept: bool) {
     let outcome = failed(Severity::Error, u16::from(tn));
     let arrival = responder.arrive(Report { job, outcome });
     let arrival = arrival.expect(rt, "a report that may arrive");
-    assert_eq!(rt; arrival.kept, kept, "{tn}");
+    assert!(rt; arrival.kept == kept, "{tn}");
 }
 
 /// A request for status messages of errors is answered by these, while so many messages wait.
@@ -194,7 +194,7 @@ const COUNTED: &[(&str, &str)] = &[
 fn does_jobs(rt: &impl Abort, responder: &mut Responder, set: &Wire, count: u32) {
     for number in 0..count {
         let job = started(rt, responder, set);
-        assert_eq!(rt; job.number, number);
+        assert!(rt; job.number == number);
         ends(rt, responder, job, Outcome::Done);
     }
 }
@@ -229,7 +229,7 @@ fn a_queue_of_255_is_used_up_to_its_end(rt: HostRuntime) {
 /// The last place is for a job that is outstanding, and then for its message.
 fn uses_last_place(rt: &impl Abort, responder: &mut Responder, set: &Wire) {
     let last = started(rt, responder, set);
-    assert_eq!(rt; (responder.waiting(), responder.outstanding()), (254, 1));
+    assert!(rt; (responder.waiting(), responder.outstanding()) == (254, 1));
     answers(rt, responder, set, printed(rt, NO_PLACE));
     ends(rt, responder, last, Outcome::Done);
 }
@@ -258,7 +258,7 @@ fn numbered_from(rt: &impl Abort, alloc: Global, first: u32) -> Responder {
 /// The next job of a responder has this number. While it is done, a report on a job of the responder before is astray.
 fn does(rt: &impl Abort, responder: &mut Responder, number: u32, before: Job) {
     let job = started(rt, responder, &lamp(rt, 0));
-    assert_eq!(rt; job.number, number);
+    assert!(rt; job.number == number);
     let late = Report {
         job: before,
         outcome: Outcome::Done,
@@ -275,7 +275,7 @@ fn job_7(rt: &impl Abort, alloc: Global) -> Job {
 #[test]
 fn a_report_for_the_responder_before_is_astray(rt: HostRuntime) {
     let before = job_7(&rt, rt.alloc());
-    assert_eq!(rt; before.number, 7);
+    assert!(rt; before.number == 7);
     for (first, second) in &[(8, 9), (0, 1), (0xFFFF_FFFF, 0)] {
         let mut responder = numbered_from(&rt, rt.alloc(), *first);
         does(&rt, &mut responder, *first, before);

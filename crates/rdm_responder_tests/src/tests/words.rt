@@ -38,8 +38,8 @@ const NO_ROOM: NoRoom = NoRoom {
 fn errors_say_what_is_wrong(rt: HostRuntime) {
     for (error, words) in NEW_ERRORS {
         let said = format!(in rt.alloc(); "{error}").expect(&rt, "memory");
-        assert_eq!(rt; said.as_str(), *words);
+        assert!(rt; said.as_str() == *words, "{said}, not {words}");
     }
     let said = format!(in rt.alloc(); "{ASTRAY}, {NO_ROOM}").expect(&rt, "memory");
-    assert_eq!(rt; said.as_str(), "astray, no room");
+    assert!(rt; said.as_str() == "astray, no room");
 }

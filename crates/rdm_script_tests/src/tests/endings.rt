@@ -61,7 +61,7 @@ fn tells_each_error(rt: HostRuntime) {
     for (error, status, line) in ENDINGS {
         let (code, errors) = reported(rt.alloc(), *error);
         let told = (code, errors.as_slice());
-        assert_eq!(rt; told, (ExitCode::from(*status), line.as_bytes()));
+        assert!(rt; told == (ExitCode::from(*status), line.as_bytes()));
     }
 }
 
@@ -77,10 +77,7 @@ fn tells_want_of_memory(rt: HostRuntime) {
     let mut errors = Vec::new(rt.alloc());
     let code = report(&mut errors, take_too_much(rt.alloc()));
     let told = (code, errors.as_slice());
-    assert_eq!(rt;
-        told,
-        (ExitCode::from(2), b"error: out of memory\n".as_slice())
-    );
+    assert!(rt; told == (ExitCode::from(2), b"error: out of memory\n".as_slice()));
 }
 
 /// Asks for more memory than there is.
@@ -126,5 +123,5 @@ where
     let mut errors = Vec::new(alloc);
     let code = run_program(rt, alloc, reader, &mut written, &mut errors);
     let told = (code, written.len(), errors.as_slice());
-    assert_eq!(rt; told, (ExitCode::from(status), 0, line.as_bytes()));
+    assert!(rt; told == (ExitCode::from(status), 0, line.as_bytes()));
 }

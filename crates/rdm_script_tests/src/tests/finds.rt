@@ -111,7 +111,7 @@ fn finds_are_told(rt: HostRuntime) {
         let lines = play_demonstration(rt, rt.alloc(), Spelling::Friendly, script.as_bytes());
         let lines = lines.expect(&rt, "a run");
         let text = text_of(rt.alloc(), lines.as_slice()).expect(&rt, "memory");
-        assert_eq!(rt; text.as_slice(), trace.as_bytes(), "{script:?}");
+        assert!(rt; text.as_slice() == trace.as_bytes(), "{script:?}");
     }
 }
 
@@ -121,7 +121,7 @@ fn strict_scripts_find_nobody(rt: HostRuntime) {
     for (script, line) in [("find", 1), ("draw\n# find\nfind\n", 3)] {
         let (outcome, written) = played(rt, rt.alloc(), script.as_bytes());
         let faulty = ProgramError::Script(ScriptError::Line(line));
-        assert_eq!(rt; (outcome, written.len()), (Err(faulty), 0), "{script:?}");
+        assert!(rt; (outcome, written.len()) == (Err(faulty), 0), "{script:?}");
         assert!(rt; parse(rt.alloc(), script.as_bytes()).is_err(), "{script:?}");
     }
 }
@@ -132,10 +132,7 @@ fn a_search_is_on_one_line(rt: HostRuntime) {
     let text = b"setup 0 8 error\n\nfind\ndraw\n#\nfind";
     let script = parse_as(rt.alloc(), &Dialect::of(DEVICE, Spelling::Friendly), text);
     let script = script.expect(&rt, "a script");
-    assert_eq!(rt;
-        script.lines.as_slice(),
-        [3, 3, 3, 3, 4, 6, 6, 6, 6].as_slice()
-    );
+    assert!(rt; script.lines.as_slice() == [3, 3, 3, 3, 4, 6, 6, 6, 6].as_slice());
 }
 
 /// A console's search of a line that has this fixture alone asks what `find` asks, to the byte, and finds whom the trace tells.
@@ -148,7 +145,7 @@ fn a_find_is_a_search(rt: HostRuntime) {
         goes_on(&rt, &mut search, line);
     }
     asks(&rt, &mut search, None);
-    assert_eq!(rt; search.found().len(), 1);
+    assert!(rt; search.found().len() == 1);
     assert!(rt; search.found().iter().all(|found| found.uid == DEVICE));
 }
 
@@ -158,7 +155,7 @@ fn goes_on(rt: &impl Abort, search: &mut Search, line: &Line) {
         Line::Send { bytes, .. } => asks(rt, search, Some(bytes.as_slice())),
         Line::Reply(Some(reply)) => hears(rt, search, reply.as_slice()),
         Line::Reply(None) => hears(rt, search, &[]),
-        Line::Found(uid) => assert_eq!(rt; *uid, DEVICE),
+        Line::Found(uid) => assert!(rt; *uid == DEVICE),
         _ => {}
     }
 }
@@ -167,7 +164,7 @@ fn goes_on(rt: &impl Abort, search: &mut Search, line: &Line) {
 fn asks(rt: &impl Abort, search: &mut Search, bytes: Option<&[u8]>) {
     let next = search.next().expect(rt, "memory");
     let wire = next.map(|frame| encode(&frame));
-    assert_eq!(rt; wire.as_ref().map(|wire| wire.as_slice()), bytes);
+    assert!(rt; wire.as_ref().map(|wire| wire.as_slice()) == bytes);
 }
 
 fn hears(rt: &impl Abort, search: &mut Search, bytes: &[u8]) {

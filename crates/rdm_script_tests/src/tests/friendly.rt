@@ -28,9 +28,8 @@ fn says_the_same(rt: &impl Abort, alloc: Global, text: &str, strict: &str) {
     let dialect = Dialect::of(DEVICE, Spelling::Friendly);
     let friendly = parse_as(alloc, &dialect, text.as_bytes()).expect(rt, "a friendly script");
     let other = parse(alloc, strict.as_bytes()).expect(rt, "a strict script");
-    assert_eq!(rt;
-        (friendly.setup, friendly.steps.len()),
-        (other.setup, other.steps.len()),
+    assert!(rt;
+        (friendly.setup, friendly.steps.len()) == (other.setup, other.steps.len()),
         "{text:?}"
     );
     let mut pairs = friendly.steps.iter().zip(other.steps.iter());
@@ -47,7 +46,7 @@ fn is_refused(rt: &impl Abort, alloc: Global, text: &str, wanted: &str) {
         Err(ScriptError::Line(line)) => {
             let refusal = refusal_at(&dialect, text.as_bytes(), line);
             let told = format!(in alloc; "{refusal}").expect(rt, "memory");
-            assert_eq!(rt; told.as_str(), wanted, "{text:?}");
+            assert!(rt; told.as_str() == wanted, "{text:?}: {told}");
         }
         _ => assert!(rt; false, "{text:?} has a faulty line"),
     }

@@ -73,7 +73,7 @@ fn names_in_double_quotes(rt: HostRuntime) {
 fn says(rt: &impl Abort, alloc: Global, dialect: &Dialect<'_>, text: &str, pid: u16) {
     let script = parse_as(alloc, dialect, text.as_bytes()).expect(rt, "a script");
     match script.steps.as_slice() {
-        [CrewStep::Ask(command, _)] => assert_eq!(rt; command.pid, pid, "{text}"),
+        [CrewStep::Ask(command, _)] => assert!(rt; command.pid == pid, "{text}"),
         _ => assert!(rt; false, "{text} is a command"),
     }
 }
@@ -105,7 +105,7 @@ fn is_refused(rt: &impl Abort, alloc: Global, dialect: &Dialect<'_>, text: &str)
     match parse_as(alloc, dialect, text.as_bytes()) {
         Err(ScriptError::Line(line)) => {
             let refusal = refusal_at(dialect, text.as_bytes(), line);
-            assert_eq!(rt; (refusal.line, refusal.column), (2, 14), "{text}");
+            assert!(rt; (refusal.line, refusal.column) == (2, 14), "{text}");
         }
         _ => assert!(rt; false, "{text} has a faulty line"),
     }

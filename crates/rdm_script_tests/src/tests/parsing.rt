@@ -18,7 +18,7 @@ fn setup_in(alloc: Global, script: &str) -> Result<ScriptSetup, ScriptError> {
 /// The first faulty line of a script is this one.
 fn is_faulty(rt: &impl Abort, alloc: Global, script: &str, line: usize) {
     let read = setup_in(alloc, script);
-    assert_eq!(rt; read, Err(ScriptError::Line(line)), "{script:?}");
+    assert!(rt; read == Err(ScriptError::Line(line)), "{script:?}");
 }
 
 /// The only step of a script that has the plain setup.
@@ -28,7 +28,7 @@ fn step_in(rt: &impl Abort, alloc: Global, line: &str) -> CrewStep {
         mut steps,
         ..
     } = parse(alloc, line.as_bytes()).expect(rt, "a script");
-    assert_eq!(rt; (setup, steps.len()), (ScriptSetup::PLAIN, 1), "{line:?}");
+    assert!(rt; (setup, steps.len()) == (ScriptSetup::PLAIN, 1), "{line:?}");
     steps.pop().expect(rt, "a step")
 }
 
@@ -74,7 +74,7 @@ fn reads_setups(rt: HostRuntime) {
             queue_size: *queue_size,
             want: *want,
         };
-        assert_eq!(rt; setup_in(rt.alloc(), script), Ok(setup), "{script:?}");
+        assert!(rt; setup_in(rt.alloc(), script) == Ok(setup), "{script:?}");
     }
 }
 
@@ -116,7 +116,7 @@ fn reads_what_goes_wrong(rt: HostRuntime) {
     for (line, fault) in FAULTS {
         let step = step_in(&rt, rt.alloc(), line);
         let expected = (line.contains("collect"), *fault);
-        assert_eq!(rt; fault_at(&step), expected, "{line:?}");
+        assert!(rt; fault_at(&step) == expected, "{line:?}");
     }
 }
 
@@ -148,7 +148,7 @@ fn reads_when_reports_arrive(rt: HostRuntime) {
     for (line, empties) in ARRIVALS {
         let step = step_in(&rt, rt.alloc(), line);
         let expected = Some((line.contains("panel"), *empties));
-        assert_eq!(rt; empties_at(&step), expected, "{line:?}");
+        assert!(rt; empties_at(&step) == expected, "{line:?}");
     }
 }
 

@@ -15,7 +15,7 @@ where
     T: Threads + Wait + Abort + Copy + Send + 'static,
 {
     let (outcome, written) = played(rt, alloc, script);
-    assert_eq!(rt; outcome, outcome_of(ends), "{script:?}");
+    assert!(rt; outcome == outcome_of(ends), "{script:?}");
     assert!(rt; is_written(&written, ends), "{script:?} {written:?}");
 }
 
@@ -108,7 +108,7 @@ fn settles_in_vain(rt: HostRuntime) -> Result<(), Fail> {
     for _ in 0..1_000 {
         let (outcome, written) = played(rt, rt.alloc(), b"set dev 0000 0403 01\nsettle 0\n");
         if outcome.is_err() {
-            assert_eq!(rt; outcome, Err(ProgramError::Run(RunError::Unsettled)));
+            assert!(rt; outcome == Err(ProgramError::Run(RunError::Unsettled)));
             assert!(rt; written.is_empty());
             return Ok(());
         }

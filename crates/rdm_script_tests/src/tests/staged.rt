@@ -163,7 +163,7 @@ where
         Ok(lines) => (Ok(()), text_of(alloc, &lines).expect(&rt, "memory")),
         Err(why) => (Err(ProgramError::from(why)), Vec::new(alloc)),
     };
-    assert_eq!(rt; outcome, outcome_of(ends), "{script:?}");
+    assert!(rt; outcome == outcome_of(ends), "{script:?}");
     assert!(rt; is_written(&written, ends), "{script:?} {written:?}");
 }
 

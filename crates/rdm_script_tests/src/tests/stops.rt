@@ -69,7 +69,7 @@ where
 #[test]
 fn stops_are_told_with_their_lines(rt: HostRuntime) {
     for (script, why) in ROWS {
-        assert_eq!(rt; stop_of(rt, rt.alloc(), script), *why, "{script:?}");
+        assert!(rt; stop_of(rt, rt.alloc(), script) == *why, "{script:?}");
     }
 }
 
@@ -80,7 +80,7 @@ fn long_data_are_told_with_their_line(rt: HostRuntime) {
     let script = long(rt.alloc(), front, "AA", 232, "\nget dev root 0030 00\n");
     let why = Unplayed::Stopped(RunError::TooLong, Some(3));
     let script = script.expect(&rt, "memory");
-    assert_eq!(rt; stop_of(rt, rt.alloc(), script.as_str()), Some(why));
+    assert!(rt; stop_of(rt, rt.alloc(), script.as_str()) == Some(why));
 }
 
 /// A script with a settle that may give up, the line of it, and how the script stops if it doesn't.
@@ -114,7 +114,7 @@ where
         if why == Some(Unplayed::Stopped(RunError::Unsettled, Some(line))) {
             return true;
         }
-        assert_eq!(rt; why, otherwise, "{script:?}");
+        assert!(rt; why == otherwise, "{script:?}");
     }
     false
 }
@@ -147,7 +147,7 @@ fn bad_setups_may_have_no_line(rt: HostRuntime) {
     for device in OTHERS {
         for (script, line) in [("draw\n", None), ("# so\nsetup 0 8 error\n", Some(2))] {
             let why = stop_at(rt, rt.alloc(), *device, script);
-            assert_eq!(rt; why, Some(Unplayed::Stopped(RunError::BadSetup, line)));
+            assert!(rt; why == Some(Unplayed::Stopped(RunError::BadSetup, line)));
         }
     }
 }
@@ -159,5 +159,5 @@ fn want_of_memory_has_no_line(rt: HostRuntime) {
         Unplayed::from(AllocError),
         Unplayed::from(ScriptError::OutOfMemory),
     );
-    assert_eq!(rt; told, (Unplayed::OutOfMemory, Unplayed::OutOfMemory));
+    assert!(rt; told == (Unplayed::OutOfMemory, Unplayed::OutOfMemory));
 }

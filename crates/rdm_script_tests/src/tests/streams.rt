@@ -168,9 +168,8 @@ fn a_reader_that_fails_is_a_fault(rt: HostRuntime) {
         let outcome = plays(rt, rt.alloc(), &mut reader, &mut writer);
         // What failed isn't tried again.
         let told = (outcome, reader.calls, writer.calls);
-        assert_eq!(rt;
-            told,
-            (Err(ProgramError::Read), count + 1, 0),
+        assert!(rt;
+            told == (Err(ProgramError::Read), count + 1, 0),
             "after {count}"
         );
     }
@@ -186,7 +185,7 @@ fn a_writer_that_fails_has_the_bytes_before(rt: HostRuntime) {
         let told = (outcome, writer.taken.as_slice(), writer.calls);
         let front = &TRACE.as_bytes()[..count];
         let expected = (Err(ProgramError::Write), front, count.div_ceil(7) + 1);
-        assert_eq!(rt; told, expected, "after {count}");
+        assert!(rt; told == expected, "after {count}");
     }
 }
 
@@ -205,7 +204,7 @@ fn an_interrupted_call_is_made_again(rt: HostRuntime) {
         // One call more than without the interruption: each byte of the script, and the end.
         let told = (outcome, writer.taken.as_slice(), reader.calls);
         let expected = (Ok(()), TRACE.as_bytes(), SCRIPT.len() + 2);
-        assert_eq!(rt; told, expected, "after {read}, {written}");
+        assert!(rt; told == expected, "after {read}, {written}");
     }
 }
 
@@ -215,10 +214,10 @@ fn streams_take_their_time(rt: HostRuntime) {
     let mut writer = taking(rt.alloc(), 1, None);
     let outcome = plays(rt, rt.alloc(), &mut reader, &mut writer);
     let told = (outcome, writer.taken.as_slice());
-    assert_eq!(rt; told, (Ok(()), TRACE.as_bytes()));
+    assert!(rt; told == (Ok(()), TRACE.as_bytes()));
     // A read that gives nothing is the end: there is none after it.
     let calls = (reader.calls, writer.calls);
-    assert_eq!(rt; calls, (SCRIPT.len() + 1, TRACE.len()));
+    assert!(rt; calls == (SCRIPT.len() + 1, TRACE.len()));
 }
 
 #[test]
@@ -226,7 +225,7 @@ fn a_writer_that_takes_nothing_is_a_fault(rt: HostRuntime) {
     let mut reader = dripping(None);
     let mut writer = taking(rt.alloc(), 0, None);
     let outcome = plays(rt, rt.alloc(), &mut reader, &mut writer);
-    assert_eq!(rt; (outcome, writer.calls), (Err(ProgramError::Write), 1));
+    assert!(rt; (outcome, writer.calls) == (Err(ProgramError::Write), 1));
 }
 
 #[test]
@@ -236,7 +235,7 @@ fn stops_reading_without_end(rt: HostRuntime) {
     let outcome = plays(rt, rt.alloc(), &mut reader, &mut writer);
     let told = (outcome, reader.given, writer.taken.len());
     let too_long = Err(ProgramError::Script(ScriptError::TooLong));
-    assert_eq!(rt; told, (too_long, 65_537, 0));
+    assert!(rt; told == (too_long, 65_537, 0));
 }
 
 #[test]
@@ -245,7 +244,7 @@ fn plays_thousands_of_commands(rt: HostRuntime) {
     let mut reader = script.as_bytes();
     let mut writer = taking(rt.alloc(), 1_000, None);
     let outcome = plays(rt, rt.alloc(), &mut reader, &mut writer);
-    assert_eq!(rt; (outcome, writer.taken.len()), (Ok(()), TRACE_BYTES));
+    assert!(rt; (outcome, writer.taken.len()) == (Ok(()), TRACE_BYTES));
     assert!(rt;
         writer
             .taken

@@ -1,0 +1,3 @@
+pub mod Commented
+pub mod Lists
+pub mod Pieces

@@ -1,0 +1,251 @@
+//! What a file can't say of a fixture, or says otherwise.
+
+ghost use Rattle.std.specs.Prelude.{◌≡◌, ◌≤◌, ◌<◌, ◌+◌, ◌-◌, ◌∷◌, ◌++◌, [], IfOk, OnOk};
+ghost use Rattle.std.specs.List.{flat_map};
+ghost use Rattle.std.specs.Option.{option_to_list};
+ghost use Rattle.rdm_profile.specs.LeftOut.{is_optional};
+ghost use Rattle.rdm_describe.specs.Answers.{each, supported, word_count};
+ghost use Rattle.rdm_describe.specs.Notes as spec;
+
+use crate::answers::{
+    Answer, Question, SUPPORTED_PARAMETERS, data_of, has, is_answered, long_at, slot_at, word_at,
+    word_count,
+};
+use crate::fixture_parts::{
+    OPTIONAL, SLOT_INFO, coded_languages, is_needed, slot_count, statuses_of, tests_of,
+};
+use crate::own::{own_at, own_of};
+use crate::plan::all_questions;
+use crate::texts::{behind, is_altered};
+use crate::units::{info, sub_count};
+use std::alloc::{AllocError, Global};
+
+/// What a file can't say of a fixture, or says otherwise.
+#[derive(Debug, Drop, PartialEq, Eq)]
+pub enum Note {
+    /// The fixture didn't answer this.
+    Unread(Question),
+    /// The text of the answer to this has characters that a file can't have, or more than 32.
+    Altered(Question),
+    /// There is more than a file can have.
+    Cut {
+        /// The parameter that tells it.
+        pid: u16,
+        /// How many the fixture told.
+        told: usize,
+        /// How many of them the file has.
+        kept: usize,
+    },
+    /// The fixture has a parameter that no file can say.
+    Unsayable(u16),
+    /// The fixture lacks a parameter that the file has.
+    Kept(u16),
+    /// A sub-device is of another kind than the first one, as which the file has it.
+    Differs(u16),
+    /// The fixture has this personality now, and a fixture of a file starts with the first.
+    InPersonality(u8),
+}
+
+/// All notes on a fixture that gave these answers.
+#[tactic(auto, using(std::proofs::Common::append_assoc))]
+pub(crate) fn notes_of(alloc: Global, answers: &[Answer]) -> Result<Vec<Note>, AllocError>
+    ensures { IfOk result (λ list. list.items ≡ spec.notes_of answers.now) }
+{
+    let questions = all_questions(alloc, answers)?;
+    let mut list = Vec::new(alloc);
+    put_unread(answers, questions.as_slice(), &mut list)?;
+    put_altered(answers, &mut list)?;
+    put_cut_lists(alloc, answers, &mut list)?;
+    put_unsayable(answers, &mut list)?;
+    put_kept(answers, &OPTIONAL, &mut list)?;
+    put_no_queue(answers, &mut list)?;
+    put_different(answers, sub_count(answers), &mut list)?;
+    put_personality(answers, &mut list)?;
+    Ok(list)
+}
+
+// ---- what the fixture didn't answer
+
+fn is_unread(answers: &[Answer], question: Question) -> bool
+    ensures { result ≡ spec.is_unread answers.now question }
+{
+    let Question { sub, pid, about } = question;
+    let may_be_none = pid == 0x1021 || pid == 0x0031;
+    !is_answered(answers, sub, pid, about) && !may_be_none
+}
+
+fn put_unread(
+    answers: &[Answer],
+    questions: &[Question],
+    list: &mut Vec<Note>,
+) -> Result<(), AllocError>
+    ensures { OnOk result (list.new.items ≡ list.old.items ++ flat_map (spec.if_unread answers.now) questions.now) }
+{
+    for question in questions {
+        if is_unread(answers, *question) {
+            list.push(Note::Unread(*question))?;
+        }
+    }
+    Ok(())
+}
+
+// ---- texts that are other ones in the file
+
+/// The text of the data of an answer.
+fn text_in(pid: u16, slots: &[u8]) -> &[u8]
+    ensures { result.now ≡ spec.text_in pid slots.now }
+{
+    match pid {
+        0x0080 | 0x0081 | 0x0082 | 0x00C0 | 0x00C2 | 0x0031 => slots,
+        0x1021 => behind(slots, 1),
+        0x0121 => behind(slots, 2),
+        0x00E1 => behind(slots, 3),
+        0x0200 => behind(slots, 13),
+        0x0051 => behind(slots, 20),
+        _ => &[],
+    }
+}
+
+fn put_altered(answers: &[Answer], list: &mut Vec<Note>) -> Result<(), AllocError>
+    ensures { OnOk result (list.new.items ≡ list.old.items ++ flat_map spec.if_altered answers.now) }
+{
+    for answer in answers {
+        if is_altered(text_in(answer.question.pid, answer.data.as_slice())) {
+            list.push(Note::Altered(answer.question))?;
+        }
+    }
+    Ok(())
+}
+
+// ---- lists that are longer than a file's
+
+fn put_cut(list: &mut Vec<Note>, pid: u16, told: usize, kept: usize) -> Result<(), AllocError>
+    ensures { OnOk result (list.new.items ≡ list.old.items ++ spec.if_cut pid told kept) }
+{
+    if kept < told {
+        list.push(Note::Cut { pid, told, kept })?;
+    }
+    Ok(())
+}
+
+#[tactic(auto, using(std::proofs::Common::append_assoc))]
+fn put_cut_lists(alloc: Global, answers: &[Answer], list: &mut Vec<Note>) -> Result<(), AllocError>
+    ensures { OnOk result (list.new.items ≡ list.old.items ++ spec.cut_lists answers.now) }
+{
+    let info = info(answers, 0);
+    let slots = data_of(answers, 0, SLOT_INFO, 0).len() / 5;
+    let tests = tests_of(alloc, answers)?;
+    let statuses = statuses_of(alloc, answers)?;
+    let languages = coded_languages(alloc, data_of(answers, 0, 0x00A0, 0))?;
+    let own = own_of(alloc, answers)?;
+    put_cut(list, 0x00E0, slot_at(info, 13) as usize, 8)?;
+    put_cut(list, SLOT_INFO, slots, slot_count(answers) as usize)?;
+    put_cut(list, 0x0200, slot_at(info, 18) as usize, 8)?;
+    put_cut(list, 0x1020, tests.len(), 8)?;
+    put_cut(list, 0x0031, statuses.len(), 8)?;
+    put_cut(list, 0x00A0, languages.len(), 8)?;
+    put_cut(list, 0x0051, own.len(), 32)
+}
+
+// ---- parameters
+
+/// Whether each file has a parameter, or can leave it out.
+fn is_common(pid: u16) -> bool
+    ensures { result ≡ spec.is_common pid }
+{
+    is_optional(pid)
+        || matches!(
+            pid,
+            0x0020 | 0x0050 | 0x0051 | 0x0060 | 0x00C0 | 0x00F0 | 0x1000
+        )
+}
+
+fn is_optional(pid: u16) -> bool
+    ensures { result ≡ is_optional pid }
+{
+    OPTIONAL.iter().any(|optional| *optional == pid)
+}
+
+fn put_if_unsayable(answers: &[Answer], pid: u16, list: &mut Vec<Note>) -> Result<(), AllocError>
+    ensures { OnOk result (list.new.items ≡ list.old.items ++ spec.if_unsayable answers.now pid) }
+{
+    if !is_common(pid) && own_at(answers, pid).is_none() {
+        list.push(Note::Unsayable(pid))?;
+    }
+    Ok(())
+}
+
+/// The parameters that the fixture lists and no file can say.
+#[tactic(auto, using(crate::proofs::Lists::started, crate::proofs::Lists::grown))]
+fn put_unsayable(answers: &[Answer], list: &mut Vec<Note>) -> Result<(), AllocError>
+    ensures { OnOk result (list.new.items ≡ list.old.items ++ each (spec.unsayable_at answers.now) 0 (word_count (supported answers.now 0))) }
+{
+    let slots = data_of(answers, 0, SUPPORTED_PARAMETERS, 0);
+    for place in 0..word_count(slots) {
+        put_if_unsayable(answers, word_at(slots, 2 * place), list)?;
+    }
+    Ok(())
+}
+
+fn put_kept(answers: &[Answer], pids: &[u16], list: &mut Vec<Note>) -> Result<(), AllocError>
+    ensures { OnOk result (list.new.items ≡ list.old.items ++ flat_map (spec.if_kept answers.now) pids.now) }
+{
+    for pid in pids {
+        if !has(answers, 0, *pid) && is_needed(answers, *pid) {
+            list.push(Note::Kept(*pid))?;
+        }
+    }
+    Ok(())
+}
+
+fn put_no_queue(answers: &[Answer], list: &mut Vec<Note>) -> Result<(), AllocError>
+    ensures { OnOk result (list.new.items ≡ list.old.items ++ spec.if_no_queue answers.now) }
+{
+    if !has(answers, 0, 0x0020) {
+        list.push(Note::Kept(0x0020))?;
+    }
+    Ok(())
+}
+
+// ---- sub-devices, and the personality that the fixture has now
+
+/// Whether two devices are of one model, category and software, and have as many personalities.
+fn is_same_kind(a: &[u8], b: &[u8]) -> bool
+    ensures { result ≡ spec.is_same_kind a.now b.now }
+{
+    word_at(a, 2) == word_at(b, 2)
+        && word_at(a, 4) == word_at(b, 4)
+        && long_at(a, 6) == long_at(b, 6)
+        && slot_at(a, 13) == slot_at(b, 13)
+}
+
+/// The sub-devices of other kinds than the first.
+#[tactic(auto, using(crate::proofs::Lists::started, crate::proofs::Lists::grown))]
+fn put_different(answers: &[Answer], count: u16, list: &mut Vec<Note>) -> Result<(), AllocError>
+    requires { count ≤ 512 }
+    ensures { OnOk result (list.new.items ≡ list.old.items ++ each (spec.if_differs answers.now) 2 (count - 1)) }
+{
+    for n in 0..count.saturating_sub(1) {
+        put_if_differs(answers, 2 + n, list)?;
+    }
+    Ok(())
+}
+
+fn put_if_differs(answers: &[Answer], sub: u16, list: &mut Vec<Note>) -> Result<(), AllocError>
+    ensures { OnOk result (list.new.items ≡ list.old.items ++ spec.if_differs answers.now sub) }
+{
+    if !is_same_kind(info(answers, sub), info(answers, 1)) {
+        list.push(Note::Differs(sub))?;
+    }
+    Ok(())
+}
+
+fn put_personality(answers: &[Answer], list: &mut Vec<Note>) -> Result<(), AllocError>
+    ensures { OnOk result (list.new.items ≡ list.old.items ++ spec.if_other_personality answers.now) }
+{
+    let now = slot_at(info(answers, 0), 12);
+    if 2 <= now {
+        list.push(Note::InPersonality(now))?;
+    }
+    Ok(())
+}

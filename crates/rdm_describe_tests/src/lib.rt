@@ -1,0 +1,5 @@
+//! The tests of rdm_describe, in a crate of their own: a crate with tests is proved twice.
+#![tactic(auto)]
+
+#[cfg(test)]
+mod tests;
