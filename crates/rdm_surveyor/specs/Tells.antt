@@ -1,7 +1,7 @@
 -- What the reply to a question tells, or none: what a fixture rejects, needs time for, sends a part of or doesn't answer tells nothing.
 -- E1.20 sections 6.3 and 10.5.1 to 10.8.1.
-use Rattle.std.specs.Prelude.{ℕ, ◌&&◌, ◌==◌, nat_lt, if◌then◌else◌, List, drop, length, slice_index, Option, Some, None}
-use Rattle.std.specs.Option.{option_and_then}
+use Rattle.std.specs.Prelude.{ℕ, Bool, ◌&&◌, ◌==◌, nat_lt, if◌then◌else◌, List, drop, take, position, length, slice_index, Option, Some, None}
+use Rattle.std.specs.Option.{option_and_then, option_map_or}
 use Rattle.rdm_collector.specs.Replies.{Said, reply_in}
 use Rattle.rdm_console.specs.Endings.{is_ack}
 use Rattle.rdm_survey.specs.declared.device_info.DeviceInfo.{DeviceInfo}
@@ -15,9 +15,17 @@ abbrev pub data_in : Option (List ℕ) → Option (List ℕ)
 data_in None = None
 data_in (Some reply) = option_and_then ack_data (reply_in reply)
 
+abbrev pub is_nul : ℕ → Bool
+is_nul slot = slot == 0
+
+-- The characters of a text: those before its first NUL. A text ends with its frame, and has no NUL; some devices pad it with them.
+-- Section 10.5.3.
+abbrev pub characters_of : List ℕ → List ℕ
+characters_of slots = option_map_or (λ end. take end slots) (position is_nul slots) slots
+
 -- a text: 32 slots at most
 abbrev pub text_of : List ℕ → Option (List ℕ)
-text_of slots = if nat_lt 32 (length slots) then None else Some slots
+text_of slots = if nat_lt 32 (length slots) then None else Some (characters_of slots)
 
 -- What a reply to MANUFACTURER_LABEL tells, to DEVICE_MODEL_DESCRIPTION, DEVICE_LABEL or SOFTWARE_VERSION_LABEL. Sections 10.5.3 to
 -- 10.5.5 and 10.5.9.

@@ -1,11 +1,12 @@
 //! A parameter of a fixture is read.
 
-ghost use Rattle.std.specs.Prelude.{◌≡◌, IfOk, OnOk};
+ghost use Rattle.std.specs.Prelude.{◌≡◌, ◌<◌, ◌≤◌, IfOk, IfSome, OnOk, length, position};
 ghost use Rattle.std.specs.Option.{option_copied};
 ghost use Rattle.rdm_surveyor.specs.Asking.{IsAsked, IsTold, ends, of_root, question};
 ghost use Rattle.rdm_surveyor.specs.Getting.{GoesOn, GoesOnTrying};
 ghost use Rattle.rdm_surveyor.specs.Surveys.{TellsName};
-ghost use Rattle.rdm_surveyor.specs.Tells.{data_in, hours_in, hours_of, info_in, name_in, name_of, personality_of, text_in, text_of};
+ghost use Rattle.rdm_surveyor.specs.Tells.{characters_of, data_in, hours_in, hours_of, info_in, is_nul, name_in, name_of};
+ghost use Rattle.rdm_surveyor.specs.Tells.{personality_of, text_in, text_of};
 
 use crate::SurveyFault;
 use rdm_collector::{Load, read_reply};
@@ -205,7 +206,26 @@ fn text_of(slots: &[u8]) -> Option<Text>
     if slots.len() > MOST_TEXT {
         return None;
     }
-    Some(Text::of(slots))
+    Some(Text::of(characters_of(slots)))
+}
+
+/// The characters of a text that a device may have padded with NULs.
+fn characters_of(slots: &[u8]) -> &[u8]
+    ensures characters { result.now ≡ characters_of slots.now }
+    ensures within { length result.now ≤ length slots.now }
+{
+    match nul_in(slots) {
+        Some(end) => &slots[..end],
+        None => slots,
+    }
+}
+
+/// Where the first NUL of a text is.
+fn nul_in(slots: &[u8]) -> Option<usize>
+    ensures end { result ≡ position is_nul slots.now }
+    ensures within { IfSome result (λ end. end < length slots.now) }
+{
+    slots.iter().position(|slot| *slot == 0)
 }
 
 /// The hours of a reply.
