@@ -38,13 +38,13 @@ fn write_wanted<W: fmt::Write>(
         Wanted::Key => write!(f, "missing key `{key}`"),
         Wanted::NoSuchKey => write!(f, "unknown key `{key}`"),
         Wanted::Number { least, most } => {
-            write!(f, "`{key}` isn't an integer from {least} to {most}")?;
+            write!(f, "`{key}` must be an integer from {least} to {most}")?;
             f.write_str(limit_of(key, most))
         }
         Wanted::List { least, most } => {
-            write!(f, "`{key}` isn't a list of {least} to {most} entries")
+            write!(f, "`{key}` must be a list of {least} to {most} entries")
         }
-        Wanted::Outcome => f.write_str("expected one of `done`, `reading` and `severity`"),
+        Wanted::Outcome => f.write_str("expected one of `done`, `reading` or `severity`"),
         _ => {
             let fault = fault_of(wanted);
             write!(f, "`{key}` {fault}")
@@ -55,7 +55,7 @@ fn write_wanted<W: fmt::Write>(
 /// What the greatest number of a key is, where that depends on the rest of the file.
 fn limit_of(key: &str, most: i64) -> &'static str {
     if key == "dmx_footprint" && most < 512 {
-        " (the number of slots)"
+        ", the number of [[slot]] tables plus `more_slots`"
     } else {
         ""
     }
@@ -64,11 +64,11 @@ fn limit_of(key: &str, most: i64) -> &'static str {
 /// What is said of a key of any table whose value isn't one of those wanted, behind its name.
 fn fault_of(wanted: Wanted) -> &'static str {
     match wanted {
-        Wanted::Text => "isn't a string of at most 32 printable ASCII characters",
-        Wanted::Uid => "isn't a UID of one device, such as \"7FF0:00000001\"",
-        Wanted::Language => "isn't a language code of two lowercase letters",
-        Wanted::Table => "isn't a table",
-        Wanted::Other => "is the same as in an earlier entry",
+        Wanted::Text => "must be a string of at most 32 printable ASCII characters",
+        Wanted::Uid => "must be the UID of one device, such as \"7FF0:00000001\"",
+        Wanted::Language => "must list codes of two lowercase letters, such as \"en\"",
+        Wanted::Table => "must be a table",
+        Wanted::Other => "repeats that of an earlier entry",
         _ => parameter_fault(wanted),
     }
 }
@@ -76,13 +76,17 @@ fn fault_of(wanted: Wanted) -> &'static str {
 /// The same of a key of a parameter that the profile adds.
 fn parameter_fault(wanted: Wanted) -> &'static str {
     match wanted {
-        Wanted::Pid => "isn't a PID that a fixture can add, such as 0x8000 to 0xFFDF",
-        Wanted::Ascending => "isn't greater than in each earlier entry",
+        Wanted::Pid => {
+            "must be from 0x8000 to 0xFFDF, or the PID of a parameter of E1.20 or E1.37-1 that a fixture can add"
+        }
+        Wanted::Ascending => "must be greater than in every earlier entry",
         Wanted::CommandClass => "must be get, set, get_set or get_clear",
         Wanted::DataType => {
             "must be unsigned_byte, signed_byte, unsigned_word, signed_word, unsigned_dword, signed_dword, ascii, bit_field, not_defined, choice, names, rates, scenes, lock, pin or block"
         }
-        Wanted::Slots => "isn't a string of at most 32 slots, each of two hexadecimal digits",
+        Wanted::Slots => {
+            "must be a string of two hexadecimal digits for each slot, at most 32 slots"
+        }
         Wanted::Boolean => "must be true or false",
         Wanted::Agreement(agreement) => disagreement(agreement),
         _ => lacking_fault(wanted),
@@ -93,20 +97,20 @@ fn parameter_fault(wanted: Wanted) -> &'static str {
 fn disagreement(agreement: Agreement) -> &'static str {
     match agreement {
         Agreement::Fields => {
-            "isn't a list of at most 8 numbers, such as { slots = 2, maximum_valid_value = 100 }"
+            "must be a list of at most 8 numbers, each a table such as { slots = 2, maximum_valid_value = 100 }"
         }
         Agreement::AllSlots => {
-            "doesn't take all slots of the data, or has a limit that its slots can't say or that is out of order"
+            "must cover exactly the slots of `default_value`, with limits that fit their slots and no minimum above its maximum"
         }
-        Agreement::Start => "isn't what the other keys say of the data",
+        Agreement::Start => "must match `data_type`, its limits and `fields`",
         Agreement::Standard => {
-            "is that of a parameter of E1.20 or E1.37-1 with other commands or other data than docs/PARAMETERS.md has"
+            "doesn't allow these commands or data (see docs/PARAMETERS.md for E1.20 and E1.37-1; only COMMS_STATUS has get_clear)"
         }
         Agreement::Names => {
-            "isn't a list with one name for each thing of which a parameter lets choose, in the order of their PIDs and numbers"
+            "must name each option, and each lock state from 1 on, exactly once, in ascending order of `pid` and `number`"
         }
         Agreement::Pids => {
-            "isn't a list of names of parameters and of PIDs, such as \"DMX_START_ADDRESS\" and 0x8001"
+            "must be a list of parameter names and PIDs, such as [\"DMX_START_ADDRESS\", 0x8001]"
         }
         _ => lock_fault(agreement),
     }
@@ -115,13 +119,11 @@ fn disagreement(agreement: Agreement) -> &'static str {
 /// The same of locks.
 fn lock_fault(agreement: Agreement) -> &'static str {
     match agreement {
-        Agreement::Locks => "names parameters more than 64 times in all",
-        Agreement::States => "tells of a state that LOCK_STATE hasn't",
-        Agreement::Opened => {
-            "has LOCK_STATE, but it can't be read, or there is no LOCK_PIN beside it"
-        }
+        Agreement::Locks => "must have at most 64 entries of `parameters`, all tables together",
+        Agreement::States => "names a state that LOCK_STATE doesn't have",
+        Agreement::Opened => "has LOCK_STATE, which needs a GET and LOCK_PIN beside it",
         Agreement::Held => {
-            "names LOCK_STATE, or a parameter that the root can't be set at once: one that it lacks, that has no SET, or that is slow"
+            "can't lock LOCK_STATE, a parameter with a slow SET, or one that the root lacks or can't set"
         }
         _ => vain_fault(agreement),
     }
@@ -131,26 +133,26 @@ fn lock_fault(agreement: Agreement) -> &'static str {
 fn vain_fault(agreement: Agreement) -> &'static str {
     match agreement {
         Agreement::Reset => {
-            "can't be true: FACTORY_DEFAULTS has no value of this parameter to set back"
+            "must be false: FACTORY_DEFAULTS has no value to reset this parameter to"
         }
-        Agreement::Lacked => {
-            "is one that starts no job here: the fixture lacks it, or answers each of its sensors at once"
-        }
+        Agreement::Lacked => "starts no job: the fixture lacks this parameter",
         Agreement::Unasked => {
-            "is one with which no job starts: there is no such state, self test or sensor, or the sensor is answered at once"
+            "starts no job: there is no such state, self test or sensor, or the sensor is answered at once"
         }
-        Agreement::Unexplained => "is one of the maker's own, and no [[status]] describes it",
-        Agreement::Sensors => "leaves out SENSOR_DEFINITION, but the file describes sensors",
-        _ => "leaves out a parameter that the file gives a value to start with",
+        Agreement::Unexplained => {
+            "is manufacturer-specific (0x8000 or greater), so a [[status]] must describe it"
+        }
+        Agreement::Sensors => "omits SENSOR_DEFINITION, but the file has a [[sensor]]",
+        _ => "omits a parameter for which the file has a starting value",
     }
 }
 
 /// The same of the parameters that the fixture lacks.
 fn lacking_fault(wanted: Wanted) -> &'static str {
     match wanted {
-        Wanted::Parameter => "isn't a list of names of parameters, such as \"LAMP_STATE\"",
-        Wanted::Optional => "leaves out a parameter that every fixture has",
-        Wanted::Unneeded => "leaves out a parameter that one which stays needs",
+        Wanted::Parameter => "must be a list of parameter names, such as [\"LAMP_STATE\"]",
+        Wanted::Optional => "omits a parameter that every fixture must have",
+        Wanted::Unneeded => "omits a parameter that a remaining one needs",
         _ => rule_fault(wanted),
     }
 }
@@ -162,6 +164,6 @@ fn rule_fault(wanted: Wanted) -> &'static str {
         Wanted::Task => "must be LAMP_STATE, POWER_STATE, PERFORM_SELFTEST or SENSOR_VALUE",
         Wanted::Severity => "must be advisory, warning or error",
         Wanted::OneOutcome => "can't be combined with another outcome",
-        _ => "isn't a valid outcome of this parameter",
+        _ => "isn't a valid outcome for this parameter",
     }
 }

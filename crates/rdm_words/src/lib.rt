@@ -3,7 +3,7 @@
 //!
 //! `words` reads a whole text, of which each line is a line of a trace or a frame in hexadecimal digits, as a sniffer
 //! writes it. No line is lost: one that is neither is shown escaped, and nothing is
-//! written that commands a terminal. `docs/WORDS.md` has the forms.
+//! written that commands a terminal. `docs/FELOSUMAY.md#the-words` has the forms.
 #![tactic(auto)]
 
 mod before;

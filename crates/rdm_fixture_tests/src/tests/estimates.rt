@@ -28,13 +28,13 @@ estimates = {}¶..
 a fixture
 
 estimates = 5¶..
-line 1: `estimates` isn't a table
+line 1: `estimates` must be a table
 
 estimates.lamp_state = 65535¶..
 a fixture
 
 estimates = { lamp_state = 65536 }¶..
-line 1: in [estimates], `lamp_state` isn't an integer from 0 to 65535
+line 1: in [estimates], `lamp_state` must be an integer from 0 to 65535
 
 ¶.. [estimates]¶power_state = 1¶lamp = 1
 line 8: in [estimates], unknown key `lamp`

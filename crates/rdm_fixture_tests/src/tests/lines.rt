@@ -26,25 +26,25 @@ const TEXTS: &str = r#"
 line 1: missing key `uid`
 
 uid = "7FF0:FFFFFFFF"
-line 1: `uid` isn't a UID of one device, such as "7FF0:00000001"
+line 1: `uid` must be the UID of one device, such as "7FF0:00000001"
 
 uid = "7FF000000001"
-line 1: `uid` isn't a UID of one device, such as "7FF0:00000001"
+line 1: `uid` must be the UID of one device, such as "7FF0:00000001"
 
 uid = 1
-line 1: `uid` isn't a UID of one device, such as "7FF0:00000001"
+line 1: `uid` must be the UID of one device, such as "7FF0:00000001"
 
 uid = "7ff0:0000000a"
 line 1: missing key `device_model_id`
 
 uid = "7FF0:00000001"¶device_model_id = 65536
-line 2: `device_model_id` isn't an integer from 0 to 65535
+line 2: `device_model_id` must be an integer from 0 to 65535
 
 uid = "7FF0:00000001"¶device_model_id = 0
 line 2: missing key `personality`
 
 uid = "7FF0:00000001"¶device_model_id = 0¶personality = []
-line 3: `personality` isn't a list of 1 to 8 entries
+line 3: `personality` must be a list of 1 to 8 entries
 
 device_model_id = 1¶[[personality]]¶dmx_footprint = 0¶[sub_devices]¶count = 0¶¶
 line 6: missing key `uid`"#;
@@ -60,31 +60,31 @@ line 10: in [sub_devices], unknown key `personalty`
 line 6: unknown key `personalty`
 
 ¶.. [[ "slot" ]]¶label_id = 1¶[[slot]]¶type = 256¶label_id = 2
-line 9: in slot 2, `type` isn't an integer from 0 to 255
+line 9: in slot 2, `type` must be an integer from 0 to 255
 
 slot = [{ label_id = 1 },¶  { label_id = 2,¶  type = 3 }, # [[slot]]¶ 4]¶..
-line 4: in slot 3, `slot` isn't a table
+line 4: in slot 3, `slot` must be a table
 
 sensor = [{ type = 1 },¶ { unit = 1 }]¶..
 line 2: in sensor 2, missing key `type`
 
 sub_devices.device_model_id = 1¶sub_devices."count" = 1000¶..
-line 2: in [sub_devices], `count` isn't an integer from 0 to 512
+line 2: in [sub_devices], `count` must be an integer from 0 to 512
 
 sub_devices = { count = 1, device_model_id = 1, personality = [¶{ dmx_footprint = 1 }, {¶ description = "" } ] }¶..
 line 2: in [sub_devices], in personality 2, missing key `dmx_footprint`
 
 presets = 1 # """¶device_label = """¶[[slot]]¶presets = -1"""¶..
-line 2: `device_label` isn't a string of at most 32 printable ASCII characters
+line 2: `device_label` must be a string of at most 32 printable ASCII characters
 
 device_label = """¶[[slot]]¶presets = -1"""¶presets = -1¶..
-line 4: `presets` isn't an integer from 0 to 65534
+line 4: `presets` must be an integer from 0 to 65534
 
 manufacturer_label = '''presets = 1'''␍¶presets = -1 # presets␍¶..
-line 2: `presets` isn't an integer from 0 to 65534
+line 2: `presets` must be an integer from 0 to 65534
 
 languages = ["aa", "bb", "cc", "dd", "ee", "ff", "gg", "hh",¶ "ii"]¶..
-line 2: `languages` isn't a list of 1 to 8 entries
+line 2: `languages` must be a list of 1 to 8 entries
 
 "two\nlines" = 1¶..
 line 1: unknown key `two?lines`"#;

@@ -83,31 +83,31 @@ const REFUSED_LOCKS: &str = r#"¶.. [[lock]]¶
 line 6: in lock 1, missing key `state`
 
 ¶.. [[lock]]¶state = 0¶
-line 7: in lock 1, `state` isn't an integer from 1 to 255
+line 7: in lock 1, `state` must be an integer from 1 to 255
 
 ¶.. [[lock]]¶state = 256¶
-line 7: in lock 1, `state` isn't an integer from 1 to 255
+line 7: in lock 1, `state` must be an integer from 1 to 255
 
 ¶.. [[lock]]¶state = 1¶
 line 6: in lock 1, missing key `parameters`
 
 ¶.. [[lock]]¶state = 1¶parameters = []¶
-line 8: in lock 1, `parameters` isn't a list of 1 to 64 entries
+line 8: in lock 1, `parameters` must be a list of 1 to 64 entries
 
 ¶.. [[lock]]¶state = 1¶parameters = "CURVE"¶
-line 8: in lock 1, `parameters` isn't a list of 1 to 64 entries
+line 8: in lock 1, `parameters` must be a list of 1 to 64 entries
 
 ¶.. [[lock]]¶state = 1¶parameters = ["CURVE", "curve"]¶
-line 8: in lock 1, `parameters` isn't a list of names of parameters and of PIDs, such as "DMX_START_ADDRESS" and 0x8001
+line 8: in lock 1, `parameters` must be a list of parameter names and PIDs, such as ["DMX_START_ADDRESS", 0x8001]
 
 ¶.. [[lock]]¶state = 1¶parameters = [65536]¶
-line 8: in lock 1, `parameters` isn't a list of names of parameters and of PIDs, such as "DMX_START_ADDRESS" and 0x8001
+line 8: in lock 1, `parameters` must be a list of parameter names and PIDs, such as ["DMX_START_ADDRESS", 0x8001]
 
 ¶.. [[lock]]¶state = 1¶parameters = [-1]¶
-line 8: in lock 1, `parameters` isn't a list of names of parameters and of PIDs, such as "DMX_START_ADDRESS" and 0x8001
+line 8: in lock 1, `parameters` must be a list of parameter names and PIDs, such as ["DMX_START_ADDRESS", 0x8001]
 
 ¶.. [[lock]]¶state = 1¶parameters = [true]¶
-line 8: in lock 1, `parameters` isn't a list of names of parameters and of PIDs, such as "DMX_START_ADDRESS" and 0x8001
+line 8: in lock 1, `parameters` must be a list of parameter names and PIDs, such as ["DMX_START_ADDRESS", 0x8001]
 
 ¶.. [[lock]]¶state = 1¶parameters = [1]¶pid = 1¶
 line 9: in lock 1, unknown key `pid`
@@ -118,13 +118,13 @@ line 10: in lock 2, unknown key `states`"#;
 /// Locks that can't work, whatever holds them. The first is LOCK_STATE of one state, with no LOCK_PIN beside it.
 const NO_LOCKS: &str =
     r#"¶.. [[parameter]]¶pid = 0x0641¶command_class = "get_set"¶data_type = "lock"¶maximum_valid_value = 1¶default_value = 0¶[[parameter]]¶pid = 0x0642¶command_class = "get"¶data_type = "names"¶default_value = ""¶[[choice]]¶pid = 0x0642¶number = 1¶
-line 6: `parameter` has LOCK_STATE, but it can't be read, or there is no LOCK_PIN beside it
+line 6: `parameter` has LOCK_STATE, which needs a GET and LOCK_PIN beside it
 
 lock = 1¶..
-line 1: `lock` isn't a list of 0 to 64 entries
+line 1: `lock` must be a list of 0 to 64 entries
 
 ¶.. [[lock]]¶state = 1¶parameters = [1]¶
-line 6: `lock` tells of a state that LOCK_STATE hasn't"#;
+line 6: `lock` names a state that LOCK_STATE doesn't have"#;
 
 /// What state 1 locks, and whether it can: what the root can be set at once, and not LOCK_STATE. At the end, states that LOCK_STATE hasn't.
 const HELD: &str = r#"¶.. [[lock]]¶state = 1¶parameters = ["DMX_START_ADDRESS"]¶
@@ -134,54 +134,54 @@ a fixture
 a fixture
 
 ¶.. [[lock]]¶state = 1¶parameters = ["LOCK_STATE"]¶
-line 35: `lock` names LOCK_STATE, or a parameter that the root can't be set at once: one that it lacks, that has no SET, or that is slow
+line 35: `lock` can't lock LOCK_STATE, a parameter with a slow SET, or one that the root lacks or can't set
 
 ¶.. [[lock]]¶state = 1¶parameters = ["LAMP_STATE"]¶
-line 35: `lock` names LOCK_STATE, or a parameter that the root can't be set at once: one that it lacks, that has no SET, or that is slow
+line 35: `lock` can't lock LOCK_STATE, a parameter with a slow SET, or one that the root lacks or can't set
 
 ¶.. [[lock]]¶state = 1¶parameters = ["POWER_STATE"]¶
-line 35: `lock` names LOCK_STATE, or a parameter that the root can't be set at once: one that it lacks, that has no SET, or that is slow
+line 35: `lock` can't lock LOCK_STATE, a parameter with a slow SET, or one that the root lacks or can't set
 
 ¶.. [[lock]]¶state = 1¶parameters = ["PERFORM_SELFTEST"]¶
-line 35: `lock` names LOCK_STATE, or a parameter that the root can't be set at once: one that it lacks, that has no SET, or that is slow
+line 35: `lock` can't lock LOCK_STATE, a parameter with a slow SET, or one that the root lacks or can't set
 
 ¶.. [[lock]]¶state = 1¶parameters = ["DEVICE_INFO"]¶
-line 35: `lock` names LOCK_STATE, or a parameter that the root can't be set at once: one that it lacks, that has no SET, or that is slow
+line 35: `lock` can't lock LOCK_STATE, a parameter with a slow SET, or one that the root lacks or can't set
 
 ¶.. [[lock]]¶state = 1¶parameters = [0x8001]¶
-line 35: `lock` names LOCK_STATE, or a parameter that the root can't be set at once: one that it lacks, that has no SET, or that is slow
+line 35: `lock` can't lock LOCK_STATE, a parameter with a slow SET, or one that the root lacks or can't set
 
 without = ["DEVICE_LABEL"]¶.. [[lock]]¶state = 1¶parameters = ["DEVICE_LABEL"]¶
-line 35: `lock` names LOCK_STATE, or a parameter that the root can't be set at once: one that it lacks, that has no SET, or that is slow
+line 35: `lock` can't lock LOCK_STATE, a parameter with a slow SET, or one that the root lacks or can't set
 
 ¶.. [[lock]]¶state = 2¶parameters = [1]¶[[lock]]¶state = 3¶parameters = [1]¶
-line 35: `lock` tells of a state that LOCK_STATE hasn't"#;
+line 35: `lock` names a state that LOCK_STATE doesn't have"#;
 
 /// PINs, lock states and commands that a standard hasn't.
 const REFUSED: &str =
     r#"¶.. [[parameter]]¶pid = 0x0640¶command_class = "get_set"¶data_type = "pin"¶default_value = 10000
-line 10: in parameter 1, `default_value` isn't an integer from 0 to 9999
+line 10: in parameter 1, `default_value` must be an integer from 0 to 9999
 
 ¶.. [[parameter]]¶pid = 0x0640¶command_class = "get_set"¶data_type = "pin"¶maximum_valid_value = 99¶default_value = 0
-line 7: in parameter 1, `pid` is that of a parameter of E1.20 or E1.37-1 with other commands or other data than docs/PARAMETERS.md has
+line 7: in parameter 1, `pid` doesn't allow these commands or data (see docs/PARAMETERS.md for E1.20 and E1.37-1; only COMMS_STATUS has get_clear)
 
 ¶.. [[parameter]]¶pid = 0x0641¶command_class = "get_set"¶data_type = "lock"¶maximum_valid_value = 1¶default_value = 2
-line 11: in parameter 1, `default_value` isn't an integer from 0 to 1
+line 11: in parameter 1, `default_value` must be an integer from 0 to 1
 
 ¶.. [[parameter]]¶pid = 0x1042¶command_class = "get_set"¶data_type = "scenes"¶maximum_valid_value = 256¶default_value = ""
-line 10: in parameter 1, `maximum_valid_value` isn't an integer from 0 to 255
+line 10: in parameter 1, `maximum_valid_value` must be an integer from 0 to 255
 
 ¶.. [[parameter]]¶pid = 0x1042¶command_class = "get_set"¶data_type = "scenes"¶default_value = "00"
-line 10: in parameter 1, `default_value` isn't what the other keys say of the data
+line 10: in parameter 1, `default_value` must match `data_type`, its limits and `fields`
 
 ¶.. [[parameter]]¶pid = 0x1001¶command_class = "get_set"¶data_type = "unsigned_byte"¶default_value = 1
-line 7: in parameter 1, `pid` is that of a parameter of E1.20 or E1.37-1 with other commands or other data than docs/PARAMETERS.md has
+line 7: in parameter 1, `pid` doesn't allow these commands or data (see docs/PARAMETERS.md for E1.20 and E1.37-1; only COMMS_STATUS has get_clear)
 
 ¶.. [[parameter]]¶pid = 0x8001¶command_class = "get_clear"¶data_type = "unsigned_byte"¶default_value = 1
-line 7: in parameter 1, `pid` is that of a parameter of E1.20 or E1.37-1 with other commands or other data than docs/PARAMETERS.md has
+line 7: in parameter 1, `pid` doesn't allow these commands or data (see docs/PARAMETERS.md for E1.20 and E1.37-1; only COMMS_STATUS has get_clear)
 
 ¶.. [[parameter]]¶pid = 0x8001¶command_class = "get_set"¶data_type = "pin"¶default_value = 1
-line 7: in parameter 1, `pid` is that of a parameter of E1.20 or E1.37-1 with other commands or other data than docs/PARAMETERS.md has"#;
+line 7: in parameter 1, `pid` doesn't allow these commands or data (see docs/PARAMETERS.md for E1.20 and E1.37-1; only COMMS_STATUS has get_clear)"#;
 
 /// So many parameters in each of so many tables of state 1, behind an empty line, the least and these tables.
 fn locking(alloc: Global, tables: &str, counts: &[usize]) -> Result<String, AllocError> {
@@ -207,7 +207,7 @@ const COUNTS: &[(&[usize], &str)] = &[
     (&[32, 32], "64 locked"),
     (
         &[32, 32, 1],
-        "line 35: `lock` names parameters more than 64 times in all",
+        "line 35: `lock` must have at most 64 entries of `parameters`, all tables together",
     ),
 ];
 
@@ -223,6 +223,6 @@ fn how_many_are_locked(rt: HostRuntime) {
 #[test]
 fn how_many_are_too_many(rt: HostRuntime) {
     let text = locking(rt.alloc(), "", &[65]).expect(&rt, "memory");
-    let expected = "line 8: in lock 1, `parameters` isn't a list of 1 to 64 entries";
+    let expected = "line 8: in lock 1, `parameters` must be a list of 1 to 64 entries";
     told_is(&rt, rt.alloc(), Part::Fault, &text, expected);
 }

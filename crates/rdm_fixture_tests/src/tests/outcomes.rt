@@ -54,11 +54,11 @@ line 8: in outcome 1, unknown key `turn`
 line 6: unknown key `outcomes`
 
 outcome = true¶..
-line 1: `outcome` isn't a list of 0 to 32 entries"#;
+line 1: `outcome` must be a list of 0 to 32 entries"#;
 
 /// What a rule says of the end of a job.
 const ENDS: &str = r#"¶.. [[outcome]]¶parameter = "LAMP_STATE"
-line 6: in outcome 1, expected one of `done`, `reading` and `severity`
+line 6: in outcome 1, expected one of `done`, `reading` or `severity`
 
 ¶.. [[outcome]]¶parameter = "LAMP_STATE"¶done = false
 line 8: in outcome 1, `done` must be true
@@ -73,10 +73,10 @@ line 9: in outcome 1, `reading` can't be combined with another outcome
 line 9: in outcome 1, `severity` can't be combined with another outcome
 
 ¶.. [[outcome]]¶parameter = "LAMP_STATE"¶reading = 1
-line 8: in outcome 1, `reading` isn't a valid outcome of this parameter
+line 8: in outcome 1, `reading` isn't a valid outcome for this parameter
 
 ¶.. [[outcome]]¶parameter = "SENSOR_VALUE"¶done = true
-line 8: in outcome 1, `done` isn't a valid outcome of this parameter
+line 8: in outcome 1, `done` isn't a valid outcome for this parameter
 
 ¶.. [[outcome]]¶parameter = "LAMP_STATE"¶severity = "fatal"¶status_id = 1
 line 8: in outcome 1, `severity` must be advisory, warning or error
@@ -92,13 +92,13 @@ const IN_VAIN: &str = r#"¶.. [[outcome]]¶parameter = "LAMP_STATE"¶done = true
 a fixture
 
 without = ["LAMP_STATE"]¶.. [[outcome]]¶parameter = "LAMP_STATE"¶done = true¶
-line 7: in outcome 1, `parameter` is one that starts no job here: the fixture lacks it, or answers each of its sensors at once
+line 7: in outcome 1, `parameter` starts no job: the fixture lacks this parameter
 
 ¶.. [[outcome]]¶parameter = "SENSOR_VALUE"¶reading = 1¶
-line 7: in outcome 1, `parameter` is one with which no job starts: there is no such state, self test or sensor, or the sensor is answered at once
+line 7: in outcome 1, `parameter` starts no job: there is no such state, self test or sensor, or the sensor is answered at once
 
 ¶.. [[sensor]]¶type = 0¶answered_at_once = true¶[[outcome]]¶parameter = "SENSOR_VALUE"¶reading = 1¶
-line 10: in outcome 1, `parameter` is one with which no job starts: there is no such state, self test or sensor, or the sensor is answered at once
+line 10: in outcome 1, `parameter` starts no job: there is no such state, self test or sensor, or the sensor is answered at once
 
 ¶.. [[sensor]]¶type = 0¶[[sensor]]¶type = 0¶answered_at_once = true¶[[outcome]]¶parameter = "SENSOR_VALUE"¶reading = 1¶
 a fixture
@@ -107,25 +107,25 @@ a fixture
 a fixture
 
 ¶.. [[sensor]]¶type = 0¶[[sensor]]¶type = 0¶answered_at_once = true¶[[outcome]]¶parameter = "SENSOR_VALUE"¶value = 1¶reading = 1¶
-line 13: in outcome 1, `value` is one with which no job starts: there is no such state, self test or sensor, or the sensor is answered at once
+line 13: in outcome 1, `value` starts no job: there is no such state, self test or sensor, or the sensor is answered at once
 
 ¶.. [[sensor]]¶type = 0¶[[sensor]]¶type = 0¶answered_at_once = true¶[[outcome]]¶parameter = "SENSOR_VALUE"¶value = 2¶reading = 1¶
-line 13: in outcome 1, `value` is one with which no job starts: there is no such state, self test or sensor, or the sensor is answered at once
+line 13: in outcome 1, `value` starts no job: there is no such state, self test or sensor, or the sensor is answered at once
 
 ¶.. [[outcome]]¶parameter = "LAMP_STATE"¶value = 3¶done = true¶
 a fixture
 
 ¶.. [[outcome]]¶parameter = "LAMP_STATE"¶value = 4¶done = true¶
-line 8: in outcome 1, `value` is one with which no job starts: there is no such state, self test or sensor, or the sensor is answered at once
+line 8: in outcome 1, `value` starts no job: there is no such state, self test or sensor, or the sensor is answered at once
 
 ¶.. [[outcome]]¶parameter = "POWER_STATE"¶value = 3¶done = true¶
-line 8: in outcome 1, `value` is one with which no job starts: there is no such state, self test or sensor, or the sensor is answered at once
+line 8: in outcome 1, `value` starts no job: there is no such state, self test or sensor, or the sensor is answered at once
 
 ¶.. [[outcome]]¶parameter = "PERFORM_SELFTEST"¶value = 255¶done = true¶
 a fixture
 
 ¶.. [[outcome]]¶parameter = "PERFORM_SELFTEST"¶value = 1¶done = true¶
-line 8: in outcome 1, `value` is one with which no job starts: there is no such state, self test or sensor, or the sensor is answered at once
+line 8: in outcome 1, `value` starts no job: there is no such state, self test or sensor, or the sensor is answered at once
 
 ¶.. [[self_test]]¶number = 1¶[[outcome]]¶parameter = "PERFORM_SELFTEST"¶value = 1¶done = true¶
 a fixture"#;
@@ -136,18 +136,18 @@ const EXPLAINED: &str =
 a fixture
 
 ¶.. [[outcome]]¶parameter = "LAMP_STATE"¶severity = "error"¶status_id = 0x8000¶
-line 9: in outcome 1, `status_id` is one of the maker's own, and no [[status]] describes it
+line 9: in outcome 1, `status_id` is manufacturer-specific (0x8000 or greater), so a [[status]] must describe it
 
 ¶.. [[status]]¶id = 0x8000¶[[outcome]]¶parameter = "LAMP_STATE"¶severity = "error"¶status_id = 0x8000¶
 a fixture
 
 ¶.. [[status]]¶id = 0x8000¶[[outcome]]¶parameter = "LAMP_STATE"¶severity = "error"¶status_id = 0xFFDF¶
-line 11: in outcome 1, `status_id` is one of the maker's own, and no [[status]] describes it"#;
+line 11: in outcome 1, `status_id` is manufacturer-specific (0x8000 or greater), so a [[status]] must describe it"#;
 
 /// As many rules as there can be, and one more.
 const COUNTS: &[(usize, &str)] = &[
     (32, "a fixture"),
-    (33, "line 101: `outcome` isn't a list of 0 to 32 entries"),
+    (33, "line 101: `outcome` must be a list of 0 to 32 entries"),
 ];
 
 #[test]

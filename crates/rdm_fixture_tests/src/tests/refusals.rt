@@ -28,49 +28,49 @@ device_label = "an ASCII text of just 32 letters"¶..
 a fixture
 
 device_label = "an ASCII text of only 33 letters."¶..
-line 1: `device_label` isn't a string of at most 32 printable ASCII characters
+line 1: `device_label` must be a string of at most 32 printable ASCII characters
 
 manufacturer_label = "two\nlines"¶..
-line 1: `manufacturer_label` isn't a string of at most 32 printable ASCII characters
+line 1: `manufacturer_label` must be a string of at most 32 printable ASCII characters
 
 software_version_label = " ~"¶..
 a fixture
 
 software_version_label = "\u007F"¶..
-line 1: `software_version_label` isn't a string of at most 32 printable ASCII characters
+line 1: `software_version_label` must be a string of at most 32 printable ASCII characters
 
 boot_software_version_label = "Zürich"¶..
-line 1: `boot_software_version_label` isn't a string of at most 32 printable ASCII characters
+line 1: `boot_software_version_label` must be a string of at most 32 printable ASCII characters
 
 device_model_description = 1¶..
-line 1: `device_model_description` isn't a string of at most 32 printable ASCII characters
+line 1: `device_model_description` must be a string of at most 32 printable ASCII characters
 
 ¶.. description = 1
-line 6: in personality 1, `description` isn't a string of at most 32 printable ASCII characters
+line 6: in personality 1, `description` must be a string of at most 32 printable ASCII characters
 
 languages = ["en", "de"]¶..
 a fixture
 
 languages = []¶..
-line 1: `languages` isn't a list of 1 to 8 entries
+line 1: `languages` must be a list of 1 to 8 entries
 
 languages = "en"¶..
-line 1: `languages` isn't a list of 1 to 8 entries
+line 1: `languages` must be a list of 1 to 8 entries
 
 languages = ["aa", "bb", "cc", "dd", "ee", "ff", "gg", "hh"]¶..
 a fixture
 
 languages = ["aa", "bb", "cc", "dd", "ee", "ff", "gg", "hh", "ii"]¶..
-line 1: `languages` isn't a list of 1 to 8 entries
+line 1: `languages` must be a list of 1 to 8 entries
 
 languages = ["EN"]¶..
-line 1: `languages` isn't a language code of two lowercase letters
+line 1: `languages` must list codes of two lowercase letters, such as "en"
 
 languages = ["eng"]¶..
-line 1: `languages` isn't a language code of two lowercase letters
+line 1: `languages` must list codes of two lowercase letters, such as "en"
 
 languages = [1]¶..
-line 1: `languages` isn't a language code of two lowercase letters
+line 1: `languages` must list codes of two lowercase letters, such as "en"
 
 preset = 1¶..
 line 1: unknown key `preset`
@@ -116,37 +116,37 @@ line 6: in personality 2, missing key `dmx_footprint`
 a fixture
 
 ¶.. [[personality]]¶dmx_footprint = 2¶[[slot]]¶label_id = 1
-line 7: in personality 2, `dmx_footprint` isn't an integer from 0 to 1 (the number of slots)
+line 7: in personality 2, `dmx_footprint` must be an integer from 0 to 1, the number of [[slot]] tables plus `more_slots`
 
 slot = 1¶..
-line 1: `slot` isn't a list of 0 to 46 entries
+line 1: `slot` must be a list of 0 to 46 entries
 
 slot = [1]¶..
-line 1: in slot 1, `slot` isn't a table
+line 1: in slot 1, `slot` must be a table
 
 ¶.. [[self_test]]¶number = 7¶[[self_test]]¶number = 8¶[[self_test]]¶number = 7
-line 11: in self_test 3, `number` is the same as in an earlier entry
+line 11: in self_test 3, `number` repeats that of an earlier entry
 
 ¶.. [[self_test]]¶number = 1¶[[self_test]]¶number = 2¶[[self_test]]¶number = 2¶[[self_test]]¶number = 1
-line 11: in self_test 3, `number` is the same as in an earlier entry
+line 11: in self_test 3, `number` repeats that of an earlier entry
 
 presets = -1¶languages = 1¶..
-line 2: `languages` isn't a list of 1 to 8 entries
+line 2: `languages` must be a list of 1 to 8 entries
 
 product_category = -1¶device_label = 1¶..
-line 2: `device_label` isn't a string of at most 32 printable ASCII characters
+line 2: `device_label` must be a string of at most 32 printable ASCII characters
 
 ¶.. [[status]]¶id = 7¶[[status]]¶id = 7
-line 9: in status 2, `id` is the same as in an earlier entry
+line 9: in status 2, `id` repeats that of an earlier entry
 
 sub_devices = 1¶..
-line 1: `sub_devices` isn't a table
+line 1: `sub_devices` must be a table
 
 ¶.. [sub_devices]¶device_model_id = 1
 line 6: in [sub_devices], missing key `count`
 
 ¶.. [sub_devices]¶count = 513
-line 7: in [sub_devices], `count` isn't an integer from 0 to 512
+line 7: in [sub_devices], `count` must be an integer from 0 to 512
 
 ¶.. [sub_devices]¶count = 1
 line 6: in [sub_devices], missing key `device_model_id`
@@ -161,10 +161,10 @@ line 6: in [sub_devices], missing key `personality`
 a fixture
 
 ¶.. [sub_devices]¶count = 0¶device_model_id = 1¶[[sub_devices.personality]]¶dmx_footprint = 513
-line 10: in [sub_devices], in personality 1, `dmx_footprint` isn't an integer from 0 to 512
+line 10: in [sub_devices], in personality 1, `dmx_footprint` must be an integer from 0 to 512
 
 ¶.. [[personality]]¶dmx_footprint = 0¶ [[personality]]¶dmx_footprint = 0¶ [[personality]]¶dmx_footprint = 0¶ [[personality]]¶dmx_footprint = 0¶ [[personality]]¶dmx_footprint = 0¶ [[personality]]¶dmx_footprint = 0¶ [[personality]]¶dmx_footprint = 0¶
 a fixture
 
 ¶.. [[personality]]¶dmx_footprint = 0¶ [[personality]]¶dmx_footprint = 0¶ [[personality]]¶dmx_footprint = 0¶ [[personality]]¶dmx_footprint = 0¶ [[personality]]¶dmx_footprint = 0¶ [[personality]]¶dmx_footprint = 0¶ [[personality]]¶dmx_footprint = 0¶ [[personality]]¶dmx_footprint = 0¶
-line 20: `personality` isn't a list of 1 to 8 entries"#;
+line 20: `personality` must be a list of 1 to 8 entries"#;

@@ -63,59 +63,59 @@ const CHOICES: &str =
 /// Numbers in slots that can't be, and parameters that aren't as their standard says.
 const REFUSED_NUMBERS: &str =
     r#"¶.. [[parameter]]¶pid = 0x8001¶command_class = "get_set"¶data_type = "not_defined"¶fields = 3¶default_value = "00"
-line 10: in parameter 1, `fields` isn't a list of at most 8 numbers, such as { slots = 2, maximum_valid_value = 100 }
+line 10: in parameter 1, `fields` must be a list of at most 8 numbers, each a table such as { slots = 2, maximum_valid_value = 100 }
 
 ¶.. [[parameter]]¶pid = 0x8001¶command_class = "get_set"¶data_type = "not_defined"¶fields = [{ slots = 3 }]¶default_value = "000000"
-line 10: in parameter 1, `fields` isn't a list of at most 8 numbers, such as { slots = 2, maximum_valid_value = 100 }
+line 10: in parameter 1, `fields` must be a list of at most 8 numbers, each a table such as { slots = 2, maximum_valid_value = 100 }
 
 ¶.. [[parameter]]¶pid = 0x8001¶command_class = "get_set"¶data_type = "not_defined"¶fields = [{ slots = 1, least = 3 }]¶default_value = "00"
-line 10: in parameter 1, `fields` isn't a list of at most 8 numbers, such as { slots = 2, maximum_valid_value = 100 }
+line 10: in parameter 1, `fields` must be a list of at most 8 numbers, each a table such as { slots = 2, maximum_valid_value = 100 }
 
 ¶.. [[parameter]]¶pid = 0x8001¶command_class = "get_set"¶data_type = "not_defined"¶fields = [{ minimum_valid_value = 1 }]¶default_value = "00"
-line 10: in parameter 1, `fields` isn't a list of at most 8 numbers, such as { slots = 2, maximum_valid_value = 100 }
+line 10: in parameter 1, `fields` must be a list of at most 8 numbers, each a table such as { slots = 2, maximum_valid_value = 100 }
 
 ¶.. [[parameter]]¶pid = 0x8001¶command_class = "get_set"¶data_type = "not_defined"¶fields = [{ slots = 1 }]¶default_value = "0000"
-line 10: in parameter 1, `fields` doesn't take all slots of the data, or has a limit that its slots can't say or that is out of order
+line 10: in parameter 1, `fields` must cover exactly the slots of `default_value`, with limits that fit their slots and no minimum above its maximum
 
 ¶.. [[parameter]]¶pid = 0x8001¶command_class = "get_set"¶data_type = "not_defined"¶fields = [{ slots = 1, maximum_valid_value = 256 }]¶default_value = "00"
-line 10: in parameter 1, `fields` doesn't take all slots of the data, or has a limit that its slots can't say or that is out of order
+line 10: in parameter 1, `fields` must cover exactly the slots of `default_value`, with limits that fit their slots and no minimum above its maximum
 
 ¶.. [[parameter]]¶pid = 0x8001¶command_class = "get_set"¶data_type = "not_defined"¶fields = [{ slots = 1, minimum_valid_value = 3, maximum_valid_value = 2 }]¶default_value = "03"
-line 10: in parameter 1, `fields` doesn't take all slots of the data, or has a limit that its slots can't say or that is out of order
+line 10: in parameter 1, `fields` must cover exactly the slots of `default_value`, with limits that fit their slots and no minimum above its maximum
 
 ¶.. [[parameter]]¶pid = 0x8001¶command_class = "get_set"¶data_type = "not_defined"¶fields = [{ slots = 1, maximum_valid_value = 2 }]¶default_value = "03"
-line 11: in parameter 1, `default_value` isn't what the other keys say of the data
+line 11: in parameter 1, `default_value` must match `data_type`, its limits and `fields`
 
 ¶.. [[parameter]]¶pid = 0x0341¶command_class = "get_set"¶data_type = "not_defined"¶fields = [{ slots = 1 }, { slots = 2 }, { slots = 2 }]¶default_value = "0000000000"
-line 7: in parameter 1, `pid` is that of a parameter of E1.20 or E1.37-1 with other commands or other data than docs/PARAMETERS.md has
+line 7: in parameter 1, `pid` doesn't allow these commands or data (see docs/PARAMETERS.md for E1.20 and E1.37-1; only COMMS_STATUS has get_clear)
 
 ¶.. [[parameter]]¶pid = 0x0340¶command_class = "get_set"¶data_type = "not_defined"¶default_value = "0000000000000000000000"
-line 7: in parameter 1, `pid` is that of a parameter of E1.20 or E1.37-1 with other commands or other data than docs/PARAMETERS.md has
+line 7: in parameter 1, `pid` doesn't allow these commands or data (see docs/PARAMETERS.md for E1.20 and E1.37-1; only COMMS_STATUS has get_clear)
 
 ¶.. [[parameter]]¶pid = 0x0343¶command_class = "get_set"¶data_type = "not_defined"¶default_value = "00"
-line 7: in parameter 1, `pid` is that of a parameter of E1.20 or E1.37-1 with other commands or other data than docs/PARAMETERS.md has
+line 7: in parameter 1, `pid` doesn't allow these commands or data (see docs/PARAMETERS.md for E1.20 and E1.37-1; only COMMS_STATUS has get_clear)
 
 ¶.. [[parameter]]¶pid = 0x8001¶command_class = "get"¶data_type = "names"¶default_value = ""
-line 7: in parameter 1, `pid` is that of a parameter of E1.20 or E1.37-1 with other commands or other data than docs/PARAMETERS.md has"#;
+line 7: in parameter 1, `pid` doesn't allow these commands or data (see docs/PARAMETERS.md for E1.20 and E1.37-1; only COMMS_STATUS has get_clear)"#;
 
 /// Names of choices that don't fit both curves.
 const REFUSED_NAMES: &str = r#"¶..
-line 17: `choice` isn't a list with one name for each thing of which a parameter lets choose, in the order of their PIDs and numbers
+line 17: `choice` must name each option, and each lock state from 1 on, exactly once, in ascending order of `pid` and `number`
 
 ¶.. [[choice]]¶pid = 0x0344¶number = 1
-line 18: `choice` isn't a list with one name for each thing of which a parameter lets choose, in the order of their PIDs and numbers
+line 18: `choice` must name each option, and each lock state from 1 on, exactly once, in ascending order of `pid` and `number`
 
 ¶.. [[choice]]¶pid = 0x0344¶number = 2¶[[choice]]¶pid = 0x0344¶number = 1
-line 18: `choice` isn't a list with one name for each thing of which a parameter lets choose, in the order of their PIDs and numbers
+line 18: `choice` must name each option, and each lock state from 1 on, exactly once, in ascending order of `pid` and `number`
 
 ¶.. [[choice]]¶pid = 0x0344¶number = 1¶[[choice]]¶pid = 0x0344¶number = 1
-line 18: `choice` isn't a list with one name for each thing of which a parameter lets choose, in the order of their PIDs and numbers
+line 18: `choice` must name each option, and each lock state from 1 on, exactly once, in ascending order of `pid` and `number`
 
 ¶.. [[choice]]¶pid = 0x0344¶number = 1¶[[choice]]¶pid = 0x0344¶number = 2¶[[choice]]¶pid = 0x0344¶number = 3
-line 18: `choice` isn't a list with one name for each thing of which a parameter lets choose, in the order of their PIDs and numbers
+line 18: `choice` must name each option, and each lock state from 1 on, exactly once, in ascending order of `pid` and `number`
 
 ¶.. [[choice]]¶pid = 0x0346¶number = 1
-line 18: `choice` isn't a list with one name for each thing of which a parameter lets choose, in the order of their PIDs and numbers
+line 18: `choice` must name each option, and each lock state from 1 on, exactly once, in ascending order of `pid` and `number`
 
 ¶.. [[choice]]¶pid = 0x0344¶number = 0
-line 20: in choice 1, `number` isn't an integer from 1 to 255"#;
+line 20: in choice 1, `number` must be an integer from 1 to 255"#;

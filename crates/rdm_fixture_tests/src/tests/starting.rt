@@ -48,28 +48,28 @@ without = ["LAMP_HOURS"]¶lamp_hours = 0¶..
 a fixture
 
 without = ["LAMP_HOURS"]¶lamp_hours = 1¶..
-line 1: `without` leaves out a parameter that the file gives a value to start with
+line 1: `without` omits a parameter for which the file has a starting value
 
 without = ["DEVICE_HOURS"]¶device_hours = 1¶..
-line 1: `without` leaves out a parameter that the file gives a value to start with
+line 1: `without` omits a parameter for which the file has a starting value
 
 without = ["LAMP_STRIKES"]¶lamp_strikes = 1¶..
-line 1: `without` leaves out a parameter that the file gives a value to start with
+line 1: `without` omits a parameter for which the file has a starting value
 
 without = ["DEVICE_POWER_CYCLES"]¶device_power_cycles = 1¶..
-line 1: `without` leaves out a parameter that the file gives a value to start with
+line 1: `without` omits a parameter for which the file has a starting value
 
 without = ["SENSOR_VALUE"]¶.. [[sensor]]¶type = 0
 a fixture
 
 without = ["SENSOR_VALUE"]¶.. [[sensor]]¶type = 0¶present = 0
-line 1: `without` leaves out a parameter that the file gives a value to start with
+line 1: `without` omits a parameter for which the file has a starting value
 
 without = ["SENSOR_DEFINITION", "SENSOR_VALUE", "RECORD_SENSORS"]¶..
 a fixture
 
 without = ["SENSOR_DEFINITION", "SENSOR_VALUE", "RECORD_SENSORS"]¶.. [[sensor]]¶type = 0
-line 1: `without` leaves out SENSOR_DEFINITION, but the file describes sensors
+line 1: `without` omits SENSOR_DEFINITION, but the file has a [[sensor]]
 
 ..
 a fixture"#;

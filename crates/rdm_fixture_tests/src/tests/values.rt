@@ -122,12 +122,12 @@ fn try_number(rt: &impl Abort, alloc: Global, row: &str) -> Result<(), AllocErro
     try_values(rt, alloc, place, least, "a fixture");
     try_values(rt, alloc, place, most, "a fixture");
     let behind = if place.key == "dmx_footprint" {
-        " (the number of slots)"
+        ", the number of [[slot]] tables plus `more_slots`"
     } else {
         ""
     };
     let expected = format!(in alloc;
-        "`{}` isn't an integer from {least} to {most}{behind}",
+        "`{}` must be an integer from {least} to {most}{behind}",
         place.key
     )?;
     try_values(rt, alloc, place, below, &expected);
@@ -141,7 +141,7 @@ fn try_text(rt: &impl Abort, alloc: Global, row: &str) -> Result<(), AllocError>
     let place = Place { key, table };
     try_values(rt, alloc, place, GOOD_TEXT, "a fixture");
     let expected = format!(in alloc;
-        "`{key}` isn't a string of at most 32 printable ASCII characters"
+        "`{key}` must be a string of at most 32 printable ASCII characters"
     )?;
     try_values(rt, alloc, place, NO_TEXTS, &expected);
     try_slip(rt, alloc, place)

@@ -28,16 +28,16 @@ workers = {}¶..
 a fixture
 
 workers = 1¶..
-line 1: `workers` isn't a table
+line 1: `workers` must be a table
 
 workers.sensor_value = 0¶..
 a fixture
 
 workers = { lamp_state = 2 }¶..
-line 1: in [workers], `lamp_state` isn't an integer from 0 to 1
+line 1: in [workers], `lamp_state` must be an integer from 0 to 1
 
 ¶.. [workers]¶power_state = 1¶perform_selftest = "0"
-line 8: in [workers], `perform_selftest` isn't an integer from 0 to 1
+line 8: in [workers], `perform_selftest` must be an integer from 0 to 1
 
 ¶.. [estimates]¶lamp_state = 1¶[workers]¶lamp = 1
 line 9: in [workers], unknown key `lamp`"#;
