@@ -34,6 +34,9 @@ RIG = ("--fixture", TOP / "examples/par_can.toml", "--fixture", TOP / "examples/
 SECONDS_TO_START = 8
 SECONDS_TO_WATCH = 4
 MOST_SECONDS = 300
+# Of the fields of DEVICE_INFO the first say what kind of device it is, up to the software version ID; and which field counts personalities.
+FIELDS_OF_KIND = 4
+PERSONALITIES = 6
 
 
 @dataclasses.dataclass
@@ -199,6 +202,38 @@ def check_slow(console, uid):
     check_set(console, uid, "IDENTIFY_DEVICE", "01", "ACK_TIMER 0.5 s", "ACK")
 
 
+def plain(console, uid, *words):
+    """What `get --format plain` prints of a parameter, without its line's end."""
+    status, printed, errors, _ = console.run("get", uid, *words, "--format", "plain")
+    console.expect(f"get {uid} {' '.join(words)}", (status, errors), (0, ""))
+    return printed.rstrip("\n")
+
+
+def identity(console, uid):
+    """What a device says that it is: its texts, the fields of DEVICE_INFO that nobody sets, its personalities and its sensors."""
+    fields = plain(console, uid, "DEVICE_INFO").split()
+    told = [plain(console, uid, name) for name in ("MANUFACTURER_LABEL", "DEVICE_MODEL_DESCRIPTION", "SOFTWARE_VERSION_LABEL")]
+    told += fields[:FIELDS_OF_KIND]
+    told += [plain(console, uid, "DMX_PERSONALITY_DESCRIPTION", str(number + 1)) for number in range(int(fields[PERSONALITIES]))]
+    told += [plain(console, uid, "SENSOR_DEFINITION", str(number)) for number in range(int(fields[-1]))]
+    return told
+
+
+def check_described(console, devices, room):
+    """With the file that `describe` prints of each device, a virtual fixture stands in for it: it's found as the device is, and says that it
+    is the same."""
+    for number, device in enumerate(devices):
+        status, printed, _, _ = console.run("describe", device.uid)
+        console.expect(f"describe {device.uid}: the status", status, 0)
+        file = room / f"described{number}.toml"
+        file.write_text(printed, encoding="utf-8")
+        with served([PROGRAM, "widget", "--fixture", file], room / f"stand-in{number}") as port:
+            other = Console(PROGRAM, port, room / "trace-of-stand-in")
+            check_found(other, [device])
+            console.expect(f"{device.uid}: what its stand-in says that it is", identity(other, device.uid), identity(console, device.uid))
+            console.wrong += other.wrong
+
+
 def check_watched(console, devices):
     """Whether watch polls all of these, until it is ended."""
     try:
@@ -229,20 +264,21 @@ def play(name, command, check_more, is_writing):
     with new_room() as room, served(command, room / name) as port:
         console = Console(PROGRAM, port, room / "trace")
         read_all(console, table, is_writing)
-        check_more(console, table.devices)
+        check_more(console, table.devices, room)
     print(f"ola-responders: {name}: {len(table.devices)} found, {table.count()} GETs, {console.asked} commands in all, in "
           f"{time.monotonic() - begun:.0f} s: {console.wrong} answers wrong", flush=True)
     return console.wrong
 
 
-def check_more_of_olas(console, devices):
+def check_more_of_olas(console, devices, room):
     """What is asked of OLA's responders besides."""
+    check_described(console, devices, room)
     Survey(console, devices).check()
     check_slow(console, next(device.uid for device in devices if "Ack Timer" in device.found))
     check_watched(console, devices)
 
 
-def check_more_of_ours(console, devices):
+def check_more_of_ours(console, devices, _room):
     """The lamp of the moving head is struck, and its result fetched."""
     check_set(console, devices[0].uid, "LAMP_STATE", "01", "ACK_TIMER 5.0 s", "ACK")
 
