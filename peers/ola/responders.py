@@ -37,6 +37,7 @@ MOST_SECONDS = 300
 # Of the fields of DEVICE_INFO the first say what kind of device it is, up to the software version ID; and which field counts personalities.
 FIELDS_OF_KIND = 4
 PERSONALITIES = 6
+PERSONALITY_DESCRIPTION = "00E1"
 
 
 @dataclasses.dataclass
@@ -214,7 +215,8 @@ def identity(console, uid):
     fields = plain(console, uid, "DEVICE_INFO").split()
     told = [plain(console, uid, name) for name in ("MANUFACTURER_LABEL", "DEVICE_MODEL_DESCRIPTION", "SOFTWARE_VERSION_LABEL")]
     told += fields[:FIELDS_OF_KIND]
-    told += [plain(console, uid, "DMX_PERSONALITY_DESCRIPTION", str(number + 1)) for number in range(int(fields[PERSONALITIES]))]
+    if PERSONALITY_DESCRIPTION in console.supported(uid, "root"):
+        told += [plain(console, uid, "DMX_PERSONALITY_DESCRIPTION", str(number + 1)) for number in range(int(fields[PERSONALITIES]))]
     told += [plain(console, uid, "SENSOR_DEFINITION", str(number)) for number in range(int(fields[-1]))]
     return told
 
