@@ -3,6 +3,8 @@ use Rattle.std.proofs.Common.{◌≡◌, ◌≤◌, ◌<◌, ◌-◌, ◌+◌, �
 use Rattle.std.proofs.lemmas.List.{append-nil, append_assoc, drop_all, length-append, length-drop, length-take, map-append, take-append-le, take_all, take_more}
 use Rattle.rdm_describe.specs.Answers.{each, is_among, word_at}
 use Rattle.rdm_describe.specs.Parts.{default_at, in_order, most_slots}
+use Rattle.rdm_describe.specs.Scenes.{fixed_of, is_fixed}
+use Rattle.rdm_describe.specs.declared.answers.Answer.{Answer}
 use Rattle.rdm_profile.specs.declared.profile.Personality.{Personality}
 
 pub each_none : {A : Type 0} (f : ℕ → List A) (first : ℕ) → each f first 0 ≡ []
@@ -29,6 +31,15 @@ pub more_in_order : (slots : List ℕ) (n : ℕ)
     → in_order slots (n + 1) ≡ (if (in_order slots n == n) && (word_at slots (5 * n) == n) then n + 1 else in_order slots n)
 unfolding in_order
 more_in_order slots n = rw add-one refl
+
+pub none_fixed : (answers : List Answer) → fixed_of answers 0 ≡ 0
+unfolding fixed_of
+none_fixed answers = refl
+
+pub more_fixed : (answers : List Answer) (n : ℕ)
+    → fixed_of answers (n + 1) ≡ (if (fixed_of answers n == n) && is_fixed answers (n + 1) then n + 1 else fixed_of answers n)
+unfolding fixed_of
+more_fixed answers n = rw add-one refl
 
 pub no_default : (slots : List ℕ) (slot : ℕ) → default_at slots slot 0 ≡ 0
 unfolding default_at
@@ -59,10 +70,6 @@ cut_more n list x room =
 
 pub cut_full : {A : Type 0} (n : ℕ) (list : List A) (x : A) → length (take n list) ≡ n → take n (list ++ x ∷ []) ≡ take n list
 cut_full n list x full = take-append-le n list (x ∷ []) (omega (arith, length-take n list))
-
-pub most_more : (list : List Personality) (x : Personality) → most_slots (list ++ x ∷ []) ≡ max (most_slots list) x.footprint
-most_more [] x = omega arith
-most_more (m ∷ ms) x = let h : most_slots (ms ++ x ∷ []) ≡ max (most_slots ms) x.footprint = most_more ms x in omega arith
 
 -- the same behind what was there
 pub started : {A : Type 0} (old : List A) (f : ℕ → List A) (first : ℕ) → old ++ each f first 0 ≡ old

@@ -14,9 +14,11 @@ use Rattle.rdm_describe.specs.declared.answers.Answer.{Answer}
 use Rattle.rdm_describe.specs.declared.answers.Question.{Question}
 use Rattle.rdm_describe.specs.declared.describing.Description.{Description}
 use Rattle.rdm_describe.specs.declared.notes.Note.{Note}
-use Rattle.rdm_describe.specs.declared.notes.Note.TheVariants.{Unread, Altered, Cut, Unsayable, Kept, Differs, InPersonality}
+use Rattle.rdm_describe.specs.declared.notes.Note.TheVariants.{Unread, Altered, Cut, Unsayable, OtherScene, Kept, Differs, InPersonality}
 use Rattle.rdm_describe.specs.Answers.{about_of, data_of}
+use Rattle.rdm_describe.specs.Drafts.{shown}
 use Rattle.rdm_describe.specs.Own.{description}
+use Rattle.rdm_describe.specs.Scenes.{scene}
 use Rattle.rdm_describe.specs.Parts.{info}
 use Rattle.rdm_describe.specs.Texts.{printed}
 
@@ -64,9 +66,16 @@ altered_words answers q =
 abbrev pub cut_words : ℕ → ℕ → ℕ → List ℕ
 cut_words pid count kept = name_of pid ++ codes ": the fixture has " ++ decimal count ++ codes ", of which the first are here: " ++ decimal kept
 
--- a parameter that no file can say
+-- a parameter that no file can say: its GET told this, and its description that
 abbrev pub unsayable_words : List Answer → ℕ → List ℕ
-unsayable_words answers pid = name_of pid ++ codes " is a parameter of the fixture that isn't here. PARAMETER_DESCRIPTION told " ++ told (description answers pid)
+unsayable_words answers pid =
+    name_of pid ++ codes " is a parameter of the fixture that isn't here. It told " ++ told (shown answers pid)
+    ++ codes ", and PARAMETER_DESCRIPTION " ++ told (description answers pid)
+
+-- a scene with times, or that is programmed
+abbrev pub scene_words : List Answer → ℕ → List ℕ
+scene_words answers number =
+    name_of 0x1042 ++ codes ": scene " ++ decimal number ++ codes " starts without what it told: " ++ told (scene answers number)
 
 -- a sub-device of another kind
 abbrev pub different_words : List Answer → ℕ → List ℕ
@@ -85,6 +94,7 @@ note_words answers (Unread q) = unread_words q
 note_words answers (Altered q) = altered_words answers q
 note_words answers (Cut pid count kept) = cut_words pid count kept
 note_words answers (Unsayable pid) = unsayable_words answers pid
+note_words answers (OtherScene number) = scene_words answers number
 note_words answers (Kept pid) = name_of pid ++ codes " isn't a parameter of the fixture, but is one here"
 note_words answers (Differs sub) = different_words answers sub
 note_words answers (InPersonality number) = personality_words number
@@ -101,10 +111,11 @@ heading_words uid = codes "What " ++ uid_text uid ++ codes " answered on a line.
 
 -- what no answer tells
 abbrev pub untold_words : List ℕ
-untold_words = codes "how jobs end (outcome), who has them (workers), how long SETs take (estimates), what lock states lock (lock),"
+untold_words = codes "how jobs end (outcome), who has them (workers), how long SETs take (estimates), what lock states lock (lock), what"
 
 abbrev pub unasked_words : List ℕ
-unasked_words = codes "how many presets there are, and self tests above 32 and status IDs above 0x801F, which aren't asked for."
+unasked_words =
+    codes "FACTORY_DEFAULTS resets, how many presets there are without PRESET_INFO, self tests above 32, status IDs above 0x801F."
 
 abbrev pub heading : Uid → List ℕ
 heading uid = comment (heading_words uid) ++ comment untold_words ++ comment unasked_words

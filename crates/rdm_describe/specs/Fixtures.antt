@@ -9,8 +9,9 @@ use Rattle.rdm_fixture.specs.declared.fixture.Fixture.{Fixture}
 use Rattle.rdm_fixture.specs.declared.starting.Starting.{Starting}
 use Rattle.rdm_describe.specs.declared.answers.Answer.{Answer}
 use Rattle.rdm_describe.specs.Answers.{data_of, long_at}
-use Rattle.rdm_describe.specs.Own.{own_of}
+use Rattle.rdm_describe.specs.Added.{choices_of, parameters_of}
 use Rattle.rdm_describe.specs.Parts.{languages_of, more_slots_of, presents_of, sensor_estimate, sensors_of, slots_of, statuses_of, sub_count, sub_of, tests_of, unit_of, without_of}
+use Rattle.rdm_describe.specs.Scenes.{preset_count}
 use Rattle.rdm_describe.specs.Texts.{text_of}
 
 -- How long SENSOR_VALUE takes was told; of the others nothing is.
@@ -19,8 +20,8 @@ estimates_with sensor = record { lamp = 50; power = 20; self_test = 100; sensor 
 
 abbrev pub particular_of : List Answer → Particular
 particular_of answers = record {
-  own = take 32 (own_of answers);
-  choices = [];
+  own = take 32 (parameters_of answers);
+  choices = take 64 (choices_of answers);
   locks = [];
   without = record { items = take 36 (without_of answers) };
   more_slots = more_slots_of answers;
@@ -32,7 +33,7 @@ profile_of answers = record {
   root = unit_of answers 0;
   sub = unit_of answers (sub_of answers);
   subs = sub_count answers;
-  presets = 0;
+  presets = preset_count answers;
   workers = usual_workers;
   boot = long_at (data_of answers 0 0x00C1 0) 0;
   boot_text = text_of (data_of answers 0 0x00C2 0);

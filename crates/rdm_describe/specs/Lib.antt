@@ -1,8 +1,12 @@
+pub mod Added
 pub mod Answers
+pub mod Choices
 pub mod Comments
+pub mod Drafts
 pub mod Fixtures
 pub mod Notes
 pub mod Own
 pub mod Parts
 pub mod Plan
+pub mod Scenes
 pub mod Texts

@@ -2,14 +2,17 @@
 use Rattle.std.specs.Prelude.{ℕ, ◌+◌, ◌-◌, ◌*◌, ◌/◌, Bool, true, false, not, ◌==◌, ◌&&◌, ◌||◌, nat_lt, nat_le, if◌then◌else◌, List, [], ◌∷◌, ◌++◌, length, drop, slice_index}
 use Rattle.std.specs.List.{flat_map, list_any}
 use Rattle.rdm_profile.specs.LeftOut.{is_optional, optional_pids}
+use Rattle.rdm_profile.specs.declared.profile.own.ParameterDef.{ParameterDef}
 use Rattle.rdm_describe.specs.declared.answers.Answer.{Answer}
 use Rattle.rdm_describe.specs.declared.answers.Question.{Question}
 use Rattle.rdm_describe.specs.declared.notes.Note.{Note}
-use Rattle.rdm_describe.specs.declared.notes.Note.TheVariants.{Unread, Altered, Cut, Unsayable, Kept, Differs, InPersonality}
+use Rattle.rdm_describe.specs.declared.notes.Note.TheVariants.{Unread, Altered, Cut, Unsayable, OtherScene, Kept, Differs, InPersonality}
 use Rattle.rdm_describe.specs.Answers.{data_of, each, has, is_answered, long_at, supported, word_at, word_count}
-use Rattle.rdm_describe.specs.Own.{own_at, own_of}
+use Rattle.rdm_describe.specs.Added.{parameters_of, stands}
+use Rattle.rdm_describe.specs.Choices.{choice_count, things_told}
 use Rattle.rdm_describe.specs.Parts.{coded_languages, info, is_needed, slot_count, slot_info, statuses_of, sub_count, tests_of}
 use Rattle.rdm_describe.specs.Plan.{all_questions}
+use Rattle.rdm_describe.specs.Scenes.{fixed_count, is_blank, scene_count, scenes_told}
 use Rattle.rdm_describe.specs.Texts.{is_altered}
 
 -- ---- what the fixture didn't answer
@@ -30,9 +33,10 @@ if_unread answers q = if is_unread answers q then Unread q ∷ [] else []
 abbrev pub text_in : ℕ → List ℕ → List ℕ
 text_in pid slots =
     if (pid == 0x0080) || ((pid == 0x0081) || ((pid == 0x0082) || ((pid == 0x00C0) || ((pid == 0x00C2) || (pid == 0x0031))))) then slots
-    else if pid == 0x1021 then drop 1 slots
+    else if (pid == 0x1021) || ((pid == 0x0344) || ((pid == 0x0346) || (pid == 0x0642))) then drop 1 slots
     else if pid == 0x0121 then drop 2 slots
     else if pid == 0x00E1 then drop 3 slots
+    else if pid == 0x0348 then drop 5 slots
     else if pid == 0x0200 then drop 13 slots
     else if pid == 0x0051 then drop 20 slots
     else []
@@ -45,6 +49,18 @@ if_altered a = if is_altered (text_in a.question.pid a.data.items) then Altered 
 abbrev pub if_cut : ℕ → ℕ → ℕ → List Note
 if_cut pid told kept = if nat_lt kept told then Cut pid told kept ∷ [] else []
 
+-- the things of a choice
+abbrev pub if_choice_cut : List Answer → ℕ → List Note
+if_choice_cut answers pid = if_cut pid (things_told answers pid) (choice_count answers pid)
+
+abbrev pub cut_things : List Answer → List Note
+cut_things answers =
+    if_choice_cut answers 0x0343
+    ++ (if_choice_cut answers 0x0345
+    ++ (if_choice_cut answers 0x0347
+    ++ (if_choice_cut answers 0x0641
+    ++ if_cut 0x1042 (scenes_told answers) (scene_count answers))))
+
 abbrev pub cut_lists : List Answer → List Note
 cut_lists answers =
     if_cut 0x00E0 (slice_index (info answers 0) 13) 8
@@ -53,7 +69,8 @@ cut_lists answers =
     ++ (if_cut 0x1020 (length (tests_of answers)) 8
     ++ (if_cut 0x0031 (length (statuses_of answers)) 8
     ++ (if_cut 0x00A0 (length (coded_languages (data_of answers 0 0x00A0 0))) 8
-    ++ if_cut 0x0051 (length (own_of answers)) 32)))))
+    ++ (if_cut 0x0051 (length (parameters_of answers)) 32
+    ++ cut_things answers))))))
 
 -- ---- parameters
 
@@ -62,16 +79,24 @@ abbrev pub is_common : ℕ → Bool
 is_common pid =
     is_optional pid || ((pid == 0x0020) || ((pid == 0x0050) || ((pid == 0x0051) || ((pid == 0x0060) || ((pid == 0x00C0) || ((pid == 0x00F0) || (pid == 0x1000)))))))
 
-abbrev pub is_empty : {A : Type 0} → List A → Bool
-is_empty [] = true
-is_empty (x ∷ xs) = false
+abbrev pub is_one_of : List ParameterDef → ℕ → Bool
+is_one_of ds pid = list_any (λ d. d.pid == pid) ds
 
--- the parameter at a place of SUPPORTED_PARAMETERS, if no file can say it
-abbrev pub if_unsayable : List Answer → ℕ → List Note
-if_unsayable answers pid = if is_common pid || not (is_empty (own_at answers pid)) then [] else Unsayable pid ∷ []
+-- the parameter at a place of SUPPORTED_PARAMETERS, if no file can say it: it isn't one of these
+abbrev pub if_unsayable : List ParameterDef → ℕ → List Note
+if_unsayable ds pid = if is_common pid || is_one_of ds pid then [] else Unsayable pid ∷ []
 
-abbrev pub unsayable_at : List Answer → ℕ → List Note
-unsayable_at answers place = if_unsayable answers (word_at (supported answers 0) (2 * place))
+abbrev pub unsayable_at : List Answer → List ParameterDef → ℕ → List Note
+unsayable_at answers ds place = if_unsayable ds (word_at (supported answers 0) (2 * place))
+
+-- a scene that isn't as a file has it, whose first ones can only be read, so many
+abbrev pub if_other_scene : List Answer → ℕ → ℕ → List Note
+if_other_scene answers fixed number =
+    if is_answered answers 0 0x1042 number && not (is_blank answers fixed number) then OtherScene number ∷ [] else []
+
+-- those of PRESET_STATUS, if it is in the file
+abbrev pub other_scenes : List Answer → List Note
+other_scenes answers = each (if_other_scene answers (fixed_count answers)) 1 (if stands answers 0x1042 then scene_count answers else 0)
 
 -- a parameter that the fixture doesn't list, and that the file has, since another one needs it
 abbrev pub if_kept : List Answer → ℕ → List Note
@@ -101,8 +126,9 @@ notes_of answers =
     flat_map (if_unread answers) (all_questions answers)
     ++ (flat_map if_altered answers
     ++ (cut_lists answers
-    ++ (each (unsayable_at answers) 0 (word_count (supported answers 0))
+    ++ (each (unsayable_at answers (parameters_of answers)) 0 (word_count (supported answers 0))
+    ++ (other_scenes answers
     ++ (flat_map (if_kept answers) optional_pids
     ++ (if_no_queue answers
     ++ (each (if_differs answers) 2 (sub_count answers - 1)
-    ++ if_other_personality answers))))))
+    ++ if_other_personality answers)))))))

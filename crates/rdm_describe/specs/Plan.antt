@@ -6,8 +6,10 @@ use Rattle.rdm_describe.specs.declared.answers.Question.{Question}
 use Rattle.rdm_describe.specs.declared.plan.Round.{Round}
 use Rattle.rdm_describe.specs.declared.plan.Round.TheVariants.{First, Second, Third}
 use Rattle.rdm_describe.specs.Answers.{asked, each, has}
+use Rattle.rdm_describe.specs.Choices.{choice_count}
 use Rattle.rdm_describe.specs.Own.{description}
 use Rattle.rdm_describe.specs.Parts.{personality_count, sensor_count, slot_count, sub_count, info}
+use Rattle.rdm_describe.specs.Scenes.{scene_count}
 
 -- the root or a sub-device is asked for a parameter, if it lists it
 abbrev pub if_listed : List Answer → ℕ → ℕ → List Question
@@ -32,10 +34,13 @@ first_questions = asked 0 0x0050 0 ∷ asked 0 0x0060 0 ∷ asked 0 0x00C0 0 ∷
 
 -- ---- the second round: by what the root lists, and by the numbers of DEVICE_INFO
 
--- what is read of the root without more, if it lists it: texts, languages, the boot software, slots and counters
+-- what is read of the root without more, if it lists it: texts, languages, the boot software, slots and counters, and the parameters of
+-- E1.20 and E1.37-1 beside those of the table
 abbrev pub readable_pids : List ℕ
 readable_pids =
-    0x0080 ∷ 0x0081 ∷ 0x0082 ∷ 0x00A0 ∷ 0x00C1 ∷ 0x00C2 ∷ 0x0120 ∷ 0x0122 ∷ 0x0400 ∷ 0x0401 ∷ 0x0402 ∷ 0x0405 ∷ []
+    0x0080 ∷ 0x0081 ∷ 0x0082 ∷ 0x00A0 ∷ 0x00C1 ∷ 0x00C2 ∷ 0x0120 ∷ 0x0122 ∷ 0x0400 ∷ 0x0401 ∷ 0x0402 ∷ 0x0405
+    ∷ 0x0015 ∷ 0x0070 ∷ 0x0141 ∷ 0x0142 ∷ 0x0340 ∷ 0x0341 ∷ 0x0342 ∷ 0x0343 ∷ 0x0345 ∷ 0x0347 ∷ 0x0440 ∷ 0x0603 ∷ 0x0640 ∷ 0x0641
+    ∷ 0x1040 ∷ 0x1041 ∷ 0x1043 ∷ 0x1044 ∷ []
 
 -- what a parameter of its maker's own is
 abbrev pub if_makers : List Answer → ℕ → List Question
@@ -64,7 +69,8 @@ about_more answers =
 abbrev pub second_questions : List Answer → List Question
 second_questions answers = about_root answers ++ about_more answers
 
--- ---- the third round: by SLOT_INFO, by what parameters of the maker's own are, and by what the first sub-device has
+-- ---- the third round: by SLOT_INFO, by what parameters of the maker's own are, by what the first sub-device has, and by how many things
+-- ---- there are to choose from, and scenes
 
 -- a parameter of its maker's own can be read. Table A-16.
 abbrev pub can_be_read : List Answer → ℕ → Bool
@@ -83,9 +89,21 @@ about_first_sub answers =
     ++ (about_each 1 0x00C0 0 (min 1 (sub_count answers))
     ++ about_each_if answers 1 0x00E1 1 (personality_count answers 1))
 
+-- what curves, response times, frequencies and lock states are called, and what each scene is
+abbrev pub about_things : List Answer → List Question
+about_things answers =
+    about_each_if answers 0 0x0344 1 (choice_count answers 0x0343)
+    ++ (about_each_if answers 0 0x0346 1 (choice_count answers 0x0345)
+    ++ (about_each_if answers 0 0x0348 1 (choice_count answers 0x0347)
+    ++ (about_each_if answers 0 0x0642 1 (choice_count answers 0x0641)
+    ++ about_each_if answers 0 0x1042 1 (scene_count answers))))
+
 abbrev pub third_questions : List Answer → List Question
 third_questions answers =
-    about_each_if answers 0 0x0121 0 (slot_count answers) ++ (each (if_readable answers) 0x8000 0x7FE0 ++ about_first_sub answers)
+    about_each_if answers 0 0x0121 0 (slot_count answers)
+    ++ (each (if_readable answers) 0x8000 0x7FE0
+    ++ (about_first_sub answers
+    ++ about_things answers))
 
 -- ---- all
 

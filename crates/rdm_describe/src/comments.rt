@@ -5,6 +5,7 @@ ghost use Rattle.std.specs.List.{flat_map};
 ghost use Rattle.rdm_fixture.specs.Describable.{CanBeDescribed};
 ghost use Rattle.rdm_describe.specs.Answers.{about_of as way_of};
 ghost use Rattle.rdm_describe.specs.Comments as spec;
+ghost use Rattle.rdm_describe.specs.Drafts.{shown};
 ghost use Rattle.rdm_describe.specs.Texts.{printed};
 ghost use Rattle.toml.specs.Parse.{skip_bom};
 
@@ -12,6 +13,7 @@ use crate::answers::{About, Answer, Question, about_of, data_of, slot_at};
 use crate::describing::Description;
 use crate::notes::Note;
 use crate::own::PARAMETER_DESCRIPTION;
+use crate::scenes::{PRESET_STATUS, scene};
 use crate::texts::{behind, printed};
 use crate::units::info;
 use itoa::Buffer;
@@ -106,11 +108,11 @@ fn put_heading(alloc: Global, uid: Uid, text: &mut Vec<u8>) -> Result<(), AllocE
 {
     put_first_line(alloc, uid, text)?;
     put_comment(
-        b"how jobs end (outcome), who has them (workers), how long SETs take (estimates), what lock states lock (lock),",
+        b"how jobs end (outcome), who has them (workers), how long SETs take (estimates), what lock states lock (lock), what",
         text,
     )?;
     put_comment(
-        b"how many presets there are, and self tests above 32 and status IDs above 0x801F, which aren't asked for.",
+        b"FACTORY_DEFAULTS resets, how many presets there are without PRESET_INFO, self tests above 32, status IDs above 0x801F.",
         text,
     )
 }
@@ -171,6 +173,7 @@ fn put_note_words(answers: &[Answer], note: &Note, words: &mut Vec<u8>) -> Resul
         Note::Altered(question) => put_altered_words(answers, *question, words),
         Note::Cut { pid, told, kept } => put_cut_words(*pid, *told, *kept, words),
         Note::Unsayable(pid) => put_unsayable_words(answers, *pid, words),
+        Note::OtherScene(number) => put_scene_words(answers, *number, words),
         Note::Kept(pid) => {
             put_name(*pid, words)?;
             words.extend_from_slice(b" isn't a parameter of the fixture, but is one here")
@@ -224,10 +227,27 @@ fn put_unsayable_words(answers: &[Answer], pid: u16, words: &mut Vec<u8>) -> Res
     ensures { OnOk result (words.new.items ≡ words.old.items ++ spec.unsayable_words answers.now pid) }
 {
     put_name(pid, words)?;
-    words.extend_from_slice(
-        b" is a parameter of the fixture that isn't here. PARAMETER_DESCRIPTION told ",
-    )?;
+    words.extend_from_slice(b" is a parameter of the fixture that isn't here. It told ")?;
+    put_shown(answers, pid, words)?;
+    words.extend_from_slice(b", and PARAMETER_DESCRIPTION ")?;
     put_told(data_of(answers, 0, PARAMETER_DESCRIPTION, pid), words)
+}
+
+/// What the fixture answered to the GET of a parameter.
+fn put_shown(answers: &[Answer], pid: u16, words: &mut Vec<u8>) -> Result<(), AllocError>
+    ensures { OnOk result (words.new.items ≡ words.old.items ++ spec.told (shown answers.now pid)) }
+{
+    put_told(data_of(answers, 0, pid, 0), words)
+}
+
+fn put_scene_words(answers: &[Answer], number: u16, words: &mut Vec<u8>) -> Result<(), AllocError>
+    ensures { OnOk result (words.new.items ≡ words.old.items ++ spec.scene_words answers.now number) }
+{
+    put_name(PRESET_STATUS, words)?;
+    words.extend_from_slice(b": scene ")?;
+    put_number(usize::from(number), words)?;
+    words.extend_from_slice(b" starts without what it told: ")?;
+    put_told(scene(answers, number), words)
 }
 
 fn put_different_words(answers: &[Answer], sub: u16, words: &mut Vec<u8>) -> Result<(), AllocError>

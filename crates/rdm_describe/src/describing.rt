@@ -5,6 +5,7 @@ ghost use Rattle.rdm_describe.specs.Fixtures as spec;
 ghost use Rattle.rdm_describe.specs.Notes.{notes_of as all_notes};
 ghost use Rattle.rdm_describe.specs.Parts as parts;
 
+use crate::added::{choices_of, parameters_of};
 use crate::answers::{Answer, data_of, long_at};
 use crate::capped::first_of;
 use crate::fixture_parts::{
@@ -12,7 +13,7 @@ use crate::fixture_parts::{
     tests_of, without_of,
 };
 use crate::notes::{Note, notes_of};
-use crate::own::own_of;
+use crate::scenes::preset_count;
 use crate::texts::text_of;
 use crate::units::{personalities_of, sub_count, sub_of, unit_of};
 use arrayvec::ArrayVec;
@@ -84,7 +85,7 @@ fn profile_of(alloc: Global, answers: &[Answer]) -> Result<Profile, AllocError>
         root,
         sub,
         subs: sub_count(answers),
-        presets: 0,
+        presets: preset_count(answers),
         workers: Workers::usual(),
         boot: long_at(data_of(answers, 0, 0x00C1, 0), 0),
         boot_text: text_of(data_of(answers, 0, 0x00C2, 0)),
@@ -102,12 +103,13 @@ fn particulars_of(alloc: Global, answers: &[Answer]) -> Result<Particulars, Allo
     ensures { IfOk result (λ p. p ≡ spec.particular_of answers.now) }
 {
     let personalities = personalities_of(alloc, answers, 0)?;
-    let own = own_of(alloc, answers)?;
+    let own = parameters_of(alloc, answers)?;
+    let choices = choices_of(alloc, answers)?;
     let without = without_of(alloc, answers)?;
     let sensor = sensor_estimate(alloc, answers)?;
     let particular = Particular {
         own: OwnParameters::of(alloc, first_of(own))?,
-        choices: ChoiceNames::none(),
+        choices: ChoiceNames::of(alloc, first_of(choices))?,
         locks: Locks::none(),
         without: first_of(without),
         more_slots: more_slots_of(answers, personalities.as_slice()),

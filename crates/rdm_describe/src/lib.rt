@@ -7,14 +7,18 @@
 //! written of them.
 #![tactic(auto)]
 
+mod added;
 mod answers;
 mod capped;
+mod choices;
 mod comments;
 mod describing;
+mod drafts;
 mod fixture_parts;
 mod notes;
 mod own;
 mod plan;
+mod scenes;
 mod texts;
 mod units;
 

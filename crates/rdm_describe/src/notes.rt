@@ -1,23 +1,26 @@
 //! What a file can't say of a fixture, or says otherwise.
 
-ghost use Rattle.std.specs.Prelude.{◌≡◌, ◌≤◌, ◌<◌, ◌+◌, ◌-◌, ◌∷◌, ◌++◌, [], IfOk, OnOk};
+ghost use Rattle.std.specs.Prelude.{◌≡◌, ◌≤◌, ◌<◌, ◌+◌, ◌-◌, ◌∷◌, ◌++◌, [], IfOk, OnOk, length};
 ghost use Rattle.std.specs.List.{flat_map};
-ghost use Rattle.std.specs.Option.{option_to_list};
 ghost use Rattle.rdm_profile.specs.LeftOut.{is_optional};
+ghost use Rattle.rdm_describe.specs.Added.{parameters_of as all_parameters};
 ghost use Rattle.rdm_describe.specs.Answers.{each, supported, word_count};
 ghost use Rattle.rdm_describe.specs.Notes as spec;
 
+use crate::added::{parameters_of, stands};
 use crate::answers::{
     Answer, Question, SUPPORTED_PARAMETERS, data_of, has, is_answered, long_at, slot_at, word_at,
     word_count,
 };
+use crate::choices::{choice_count, things_told};
 use crate::fixture_parts::{
     OPTIONAL, SLOT_INFO, coded_languages, is_needed, slot_count, statuses_of, tests_of,
 };
-use crate::own::{own_at, own_of};
 use crate::plan::all_questions;
+use crate::scenes::{PRESET_STATUS, fixed_count, is_blank, scene_count, scenes_told};
 use crate::texts::{behind, is_altered};
 use crate::units::{info, sub_count};
+use rdm_device::ParameterDef;
 use std::alloc::{AllocError, Global};
 
 /// What a file can't say of a fixture, or says otherwise.
@@ -38,6 +41,8 @@ pub enum Note {
     },
     /// The fixture has a parameter that no file can say.
     Unsayable(u16),
+    /// A scene of the fixture isn't as each starts in a file: without times, and not programmed unless it can only be read.
+    OtherScene(u16),
     /// The fixture lacks a parameter that the file has.
     Kept(u16),
     /// A sub-device is of another kind than the first one, as which the file has it.
@@ -52,11 +57,13 @@ pub(crate) fn notes_of(alloc: Global, answers: &[Answer]) -> Result<Vec<Note>, A
     ensures { IfOk result (λ list. list.items ≡ spec.notes_of answers.now) }
 {
     let questions = all_questions(alloc, answers)?;
+    let parameters = parameters_of(alloc, answers)?;
     let mut list = Vec::new(alloc);
     put_unread(answers, questions.as_slice(), &mut list)?;
     put_altered(answers, &mut list)?;
-    put_cut_lists(alloc, answers, &mut list)?;
-    put_unsayable(answers, &mut list)?;
+    put_cut_lists(alloc, answers, parameters.len(), &mut list)?;
+    put_unsayable(answers, parameters.as_slice(), &mut list)?;
+    put_other_scenes(answers, &mut list)?;
     put_kept(answers, &OPTIONAL, &mut list)?;
     put_no_queue(answers, &mut list)?;
     put_different(answers, sub_count(answers), &mut list)?;
@@ -97,9 +104,10 @@ fn text_in(pid: u16, slots: &[u8]) -> &[u8]
 {
     match pid {
         0x0080 | 0x0081 | 0x0082 | 0x00C0 | 0x00C2 | 0x0031 => slots,
-        0x1021 => behind(slots, 1),
+        0x1021 | 0x0344 | 0x0346 | 0x0642 => behind(slots, 1),
         0x0121 => behind(slots, 2),
         0x00E1 => behind(slots, 3),
+        0x0348 => behind(slots, 5),
         0x0200 => behind(slots, 13),
         0x0051 => behind(slots, 20),
         _ => &[],
@@ -129,7 +137,13 @@ fn put_cut(list: &mut Vec<Note>, pid: u16, told: usize, kept: usize) -> Result<(
 }
 
 #[tactic(auto, using(std::proofs::Common::append_assoc))]
-fn put_cut_lists(alloc: Global, answers: &[Answer], list: &mut Vec<Note>) -> Result<(), AllocError>
+fn put_cut_lists(
+    alloc: Global,
+    answers: &[Answer],
+    parameters: usize,
+    list: &mut Vec<Note>,
+) -> Result<(), AllocError>
+    requires { parameters ≡ length (all_parameters answers.now) }
     ensures { OnOk result (list.new.items ≡ list.old.items ++ spec.cut_lists answers.now) }
 {
     let info = info(answers, 0);
@@ -137,14 +151,34 @@ fn put_cut_lists(alloc: Global, answers: &[Answer], list: &mut Vec<Note>) -> Res
     let tests = tests_of(alloc, answers)?;
     let statuses = statuses_of(alloc, answers)?;
     let languages = coded_languages(alloc, data_of(answers, 0, 0x00A0, 0))?;
-    let own = own_of(alloc, answers)?;
     put_cut(list, 0x00E0, slot_at(info, 13) as usize, 8)?;
     put_cut(list, SLOT_INFO, slots, slot_count(answers) as usize)?;
     put_cut(list, 0x0200, slot_at(info, 18) as usize, 8)?;
     put_cut(list, 0x1020, tests.len(), 8)?;
     put_cut(list, 0x0031, statuses.len(), 8)?;
     put_cut(list, 0x00A0, languages.len(), 8)?;
-    put_cut(list, 0x0051, own.len(), 32)
+    put_cut(list, 0x0051, parameters, 32)?;
+    put_cut_things(answers, list)
+}
+
+/// The things of choices, and scenes.
+#[tactic(auto, using(std::proofs::Common::append_assoc))]
+fn put_cut_things(answers: &[Answer], list: &mut Vec<Note>) -> Result<(), AllocError>
+    ensures { OnOk result (list.new.items ≡ list.old.items ++ spec.cut_things answers.now) }
+{
+    put_choice_cut(answers, 0x0343, list)?;
+    put_choice_cut(answers, 0x0345, list)?;
+    put_choice_cut(answers, 0x0347, list)?;
+    put_choice_cut(answers, 0x0641, list)?;
+    let (told, kept) = (scenes_told(answers), scene_count(answers));
+    put_cut(list, PRESET_STATUS, usize::from(told), usize::from(kept))
+}
+
+fn put_choice_cut(answers: &[Answer], pid: u16, list: &mut Vec<Note>) -> Result<(), AllocError>
+    ensures { OnOk result (list.new.items ≡ list.old.items ++ spec.if_choice_cut answers.now pid) }
+{
+    let (told, kept) = (things_told(answers, pid), choice_count(answers, pid));
+    put_cut(list, pid, usize::from(told), usize::from(kept))
 }
 
 // ---- parameters
@@ -166,23 +200,81 @@ fn is_optional(pid: u16) -> bool
     OPTIONAL.iter().any(|optional| *optional == pid)
 }
 
-fn put_if_unsayable(answers: &[Answer], pid: u16, list: &mut Vec<Note>) -> Result<(), AllocError>
-    ensures { OnOk result (list.new.items ≡ list.old.items ++ spec.if_unsayable answers.now pid) }
+fn put_if_unsayable(
+    parameters: &[ParameterDef],
+    pid: u16,
+    list: &mut Vec<Note>,
+) -> Result<(), AllocError>
+    ensures { OnOk result (list.new.items ≡ list.old.items ++ spec.if_unsayable parameters.now pid) }
 {
-    if !is_common(pid) && own_at(answers, pid).is_none() {
+    if !is_common(pid) && !is_one_of(parameters, pid) {
         list.push(Note::Unsayable(pid))?;
     }
     Ok(())
 }
 
-/// The parameters that the fixture lists and no file can say.
+/// Whether one of these has this PID.
+fn is_one_of(parameters: &[ParameterDef], pid: u16) -> bool
+    ensures { result ≡ spec.is_one_of parameters.now pid }
+{
+    parameters.iter().any(|def| def.pid == pid)
+}
+
+/// The parameters that the fixture lists and that aren't among these of the file.
 #[tactic(auto, using(crate::proofs::Lists::started, crate::proofs::Lists::grown))]
-fn put_unsayable(answers: &[Answer], list: &mut Vec<Note>) -> Result<(), AllocError>
-    ensures { OnOk result (list.new.items ≡ list.old.items ++ each (spec.unsayable_at answers.now) 0 (word_count (supported answers.now 0))) }
+fn put_unsayable(
+    answers: &[Answer],
+    parameters: &[ParameterDef],
+    list: &mut Vec<Note>,
+) -> Result<(), AllocError>
+    ensures { OnOk result (list.new.items ≡ list.old.items ++ each (spec.unsayable_at answers.now parameters.now) 0 (word_count (supported answers.now 0))) }
 {
     let slots = data_of(answers, 0, SUPPORTED_PARAMETERS, 0);
     for place in 0..word_count(slots) {
-        put_if_unsayable(answers, word_at(slots, 2 * place), list)?;
+        put_if_unsayable(parameters, word_at(slots, 2 * place), list)?;
+    }
+    Ok(())
+}
+
+/// The scenes that aren't as they are in the file.
+fn put_other_scenes(answers: &[Answer], list: &mut Vec<Note>) -> Result<(), AllocError>
+    ensures { OnOk result (list.new.items ≡ list.old.items ++ spec.other_scenes answers.now) }
+{
+    let fixed = fixed_count(answers);
+    if stands(answers, PRESET_STATUS) {
+        put_other_of(answers, fixed, scene_count(answers), list)
+    } else {
+        put_other_of(answers, fixed, 0, list)
+    }
+}
+
+/// Those of the first so many, where so many can only be read.
+#[tactic(auto, using(crate::proofs::Lists::started, crate::proofs::Lists::grown))]
+fn put_other_of(
+    answers: &[Answer],
+    fixed: u16,
+    count: u16,
+    list: &mut Vec<Note>,
+) -> Result<(), AllocError>
+    requires { count ≤ 255 }
+    ensures { OnOk result (list.new.items ≡ list.old.items ++ each (spec.if_other_scene answers.now fixed) 1 count) }
+{
+    for n in 0..count {
+        put_if_other_scene(answers, fixed, 1 + n, list)?;
+    }
+    Ok(())
+}
+
+fn put_if_other_scene(
+    answers: &[Answer],
+    fixed: u16,
+    number: u16,
+    list: &mut Vec<Note>,
+) -> Result<(), AllocError>
+    ensures { OnOk result (list.new.items ≡ list.old.items ++ spec.if_other_scene answers.now fixed number) }
+{
+    if is_answered(answers, 0, PRESET_STATUS, number) && !is_blank(answers, fixed, number) {
+        list.push(Note::OtherScene(number))?;
     }
     Ok(())
 }

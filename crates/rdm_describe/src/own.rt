@@ -1,6 +1,6 @@
 //! The parameters of its maker's own that a fixture describes.
 
-ghost use Rattle.std.specs.Prelude.{◌≡◌, ◌≤◌, ◌<◌, ◌+◌, ◌++◌, IfOk, OnOk, length, replicate};
+ghost use Rattle.std.specs.Prelude.{◌≡◌, ◌≤◌, ◌<◌, ◌+◌, ◌++◌, OnOk, length, replicate};
 ghost use Rattle.std.specs.Option.{option_to_list};
 ghost use Rattle.rdm_describe.specs.Answers.{each};
 ghost use Rattle.rdm_describe.specs.Own as spec;
@@ -14,7 +14,7 @@ use arrayvec::ArrayVec;
 use rdm_device::{ParameterDef, Rights, Shape, can_start};
 use rdm_frame::Text;
 use rdm_frame::standard::MOST_TEXT;
-use std::alloc::{AllocError, Global};
+use std::alloc::AllocError;
 
 /// The parameter ID of what a parameter of the maker's own is (E1.20 section 10.4.2).
 pub(crate) const PARAMETER_DESCRIPTION: u16 = 0x0051;
@@ -134,14 +134,14 @@ fn def_of(answers: &[Answer], pid: u16) -> Option<ParameterDef>
 }
 
 /// Whether a file can say it.
-fn is_sayable(def: &ParameterDef) -> bool
+pub(crate) fn is_sayable(def: &ParameterDef) -> bool
     ensures { result ≡ spec.is_sayable def.now }
 {
     def.low <= def.high && can_start(def)
 }
 
 /// The parameter with this PID, if the fixture lists it and a file can say it.
-pub(crate) fn own_at(answers: &[Answer], pid: u16) -> Option<ParameterDef>
+fn own_at(answers: &[Answer], pid: u16) -> Option<ParameterDef>
     ensures { option_to_list result ≡ spec.own_at answers.now pid }
 {
     if !has(answers, 0, pid) {
@@ -152,15 +152,14 @@ pub(crate) fn own_at(answers: &[Answer], pid: u16) -> Option<ParameterDef>
 }
 
 /// The parameters of the maker's own, in the order of their PIDs.
-#[tactic(auto, using(crate::proofs::Lists::each_none, crate::proofs::Lists::each_more))]
-pub(crate) fn own_of(alloc: Global, answers: &[Answer]) -> Result<Vec<ParameterDef>, AllocError>
-    ensures { IfOk result (λ list. list.items ≡ spec.own_of answers.now) }
+#[tactic(auto, using(crate::proofs::Lists::started, crate::proofs::Lists::grown))]
+pub(crate) fn put_makers(answers: &[Answer], list: &mut Vec<ParameterDef>) -> Result<(), AllocError>
+    ensures { OnOk result (list.new.items ≡ list.old.items ++ spec.own_of answers.now) }
 {
-    let mut list = Vec::new(alloc);
     for n in 0..OWN_COUNT {
-        put_own(own_at(answers, FIRST_OWN + n), &mut list)?;
+        put_own(own_at(answers, FIRST_OWN + n), list)?;
     }
-    Ok(list)
+    Ok(())
 }
 
 fn put_own(def: Option<ParameterDef>, list: &mut Vec<ParameterDef>) -> Result<(), AllocError>

@@ -6,8 +6,10 @@ ghost use Rattle.rdm_describe.specs.Answers.{each};
 ghost use Rattle.rdm_describe.specs.Plan as spec;
 
 use crate::answers::{Answer, Question, data_of, has, slot_at};
+use crate::choices::choice_count;
 use crate::fixture_parts::{sensor_count, slot_count};
 use crate::own::{FIRST_OWN, OWN_COUNT, PARAMETER_DESCRIPTION};
+use crate::scenes::{PRESET_STATUS, scene_count};
 use crate::units::{DEVICE_INFO, personality_count, sub_count};
 use std::alloc::{AllocError, Global};
 
@@ -20,8 +22,10 @@ pub(crate) const FIRST_STATUS: u16 = 0x8000;
 pub(crate) const STATUSES: u16 = 32;
 
 /// What is read of the root without more.
-const READABLE: [u16; 12] = [
+const READABLE: [u16; 30] = [
     0x0080, 0x0081, 0x0082, 0x00A0, 0x00C1, 0x00C2, 0x0120, 0x0122, 0x0400, 0x0401, 0x0402, 0x0405,
+    0x0015, 0x0070, 0x0141, 0x0142, 0x0340, 0x0341, 0x0342, 0x0343, 0x0345, 0x0347, 0x0440, 0x0603,
+    0x0640, 0x0641, 0x1040, 0x1041, 0x1043, 0x1044,
 ];
 
 /// What a sub-device calls itself.
@@ -123,7 +127,45 @@ fn put_third(answers: &[Answer], list: &mut Vec<Question>) -> Result<(), AllocEr
 {
     put_about_if(answers, asked(0, 0x0121, 0), slot_count(answers), list)?;
     put_values(answers, list)?;
-    put_first_sub(answers, list)
+    put_first_sub(answers, list)?;
+    put_things(answers, list)
+}
+
+/// What curves, response times, frequencies and lock states are called, and what each scene is.
+#[tactic(auto, using(std::proofs::Common::append_assoc))]
+fn put_things(answers: &[Answer], list: &mut Vec<Question>) -> Result<(), AllocError>
+    ensures { OnOk result (list.new.items ≡ list.old.items ++ spec.about_things answers.now) }
+{
+    put_about_if(
+        answers,
+        asked(0, 0x0344, 1),
+        choice_count(answers, 0x0343),
+        list,
+    )?;
+    put_about_if(
+        answers,
+        asked(0, 0x0346, 1),
+        choice_count(answers, 0x0345),
+        list,
+    )?;
+    put_about_if(
+        answers,
+        asked(0, 0x0348, 1),
+        choice_count(answers, 0x0347),
+        list,
+    )?;
+    put_about_if(
+        answers,
+        asked(0, 0x0642, 1),
+        choice_count(answers, 0x0641),
+        list,
+    )?;
+    put_about_if(
+        answers,
+        asked(0, PRESET_STATUS, 1),
+        scene_count(answers),
+        list,
+    )
 }
 
 /// What the sub-devices are.

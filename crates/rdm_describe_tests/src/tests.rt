@@ -1,5 +1,8 @@
 //! Fixtures that answer by a list, and the files that describe them.
 
+mod contradictions;
+mod dimmers;
+
 use rdm_describe::{Answer, Question, Round, describe, put_description, questions};
 use rdm_fixture::Fixture;
 use rdm_frame::Uid;
@@ -95,8 +98,8 @@ fn file(alloc: Global, rows: &[Row]) -> Result<String, Fail> {
 /// The comments before each file.
 const HEADING: &str = "\
 # What 7FF0:00000040 answered on a line. No answer tells these, which can be written here by hand:
-# how jobs end (outcome), who has them (workers), how long SETs take (estimates), what lock states lock (lock),
-# how many presets there are, and self tests above 32 and status IDs above 0x801F, which aren't asked for.
+# how jobs end (outcome), who has them (workers), how long SETs take (estimates), what lock states lock (lock), what
+# FACTORY_DEFAULTS resets, how many presets there are without PRESET_INFO, self tests above 32, status IDs above 0x801F.
 ";
 
 /// Whether a text has these words.
@@ -153,7 +156,7 @@ fn odd_fixture_has_notes(rt: HostRuntime) -> Result<(), Fail> {
         "# MANUFACTURER_LABEL wasn't answered\n",
         "# DEVICE_MODEL_DESCRIPTION isn't a text of at most 32 printable characters, and is another one here; it told 4C45440A706172\n",
         "device_model_description = \"LED?par\"",
-        "# 0x0700 is a parameter of the fixture that isn't here. PARAMETER_DESCRIPTION told nothing\n",
+        "# 0x0700 is a parameter of the fixture that isn't here. It told nothing, and PARAMETER_DESCRIPTION nothing\n",
         "# STATUS_MESSAGES isn't a parameter of the fixture, but is one here\n",
         "# QUEUED_MESSAGE isn't a parameter of the fixture, but is one here\n",
         "# sub-device 2: it is another device than sub-device 1, as which it is here, and told 01000042010100000000000101010001000000\n",

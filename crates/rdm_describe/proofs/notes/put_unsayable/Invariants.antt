@@ -5,4 +5,4 @@ use Rattle.rdm_describe.proofs.notes.put_unsayable.Given as goal
 
 -- those so far
 abbrev pub invariant-loop-place : goal.invariant-loop-place
-invariant-loop-place l = l.list.items ≡ l.fn.list.items ++ each (unsayable_at l.answers) 0 l.place
+invariant-loop-place l = l.list.items ≡ l.fn.list.items ++ each (unsayable_at l.answers l.parameters) 0 l.place
