@@ -13,6 +13,7 @@ kind_of_passage passage.Whole = kind.Whole
 kind_of_passage passage.Altered = kind.Altered
 kind_of_passage passage.Lost = kind.Lost
 kind_of_passage passage.Refused = kind.Lost
+kind_of_passage passage.Negative = kind.Negative
 
 abbrev pub kinds_of_shafts : List Shaft → List Kind
 kinds_of_shafts shafts = map (λ shaft. shaft.kind) shafts

@@ -3,7 +3,7 @@ use Rattle.std.specs.Prelude.{ℕ, Bool, ◌==◌, if◌then◌else◌, List, []
 use Rattle.std.specs.List.{list_any, slice_split}
 use Rattle.std.specs.Str.{bytes_eq}
 use Rattle.rdm_chart.specs.declared.arrow.Kind.{Kind}
-use Rattle.rdm_chart.specs.declared.arrow.Kind.TheVariants.{Whole, Altered, Lost}
+use Rattle.rdm_chart.specs.declared.arrow.Kind.TheVariants.{Whole, Altered, Lost, Negative}
 
 -- The arrow that a class is of, if it is one of an arrow. A class is a list of names with spaces between (SVG 1.1, section 6.12).
 abbrev pub kind_among : List (List ℕ) → List Kind
@@ -12,6 +12,7 @@ kind_among names =
     then
     (if list_any (bytes_eq (codes "lost")) names then Lost
     else if list_any (bytes_eq (codes "altered")) names then Altered
+    else if list_any (bytes_eq (codes "negative")) names then Negative
     else Whole) ∷ []
     else []
 

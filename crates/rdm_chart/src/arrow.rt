@@ -1,11 +1,12 @@
 //! Arrows between lifelines.
 
 ghost use Rattle.std.specs.Prelude.{◌≡◌, ◌++◌, ◌∷◌, [], OnOk};
+ghost use Rattle.rdm_chart.specs.Arrows.{kind_told};
 ghost use Rattle.rdm_chart.specs.Reading.{kind_named};
 ghost use Rattle.rdm_chart.specs.Elements.{IsName};
 ghost use Rattle.rdm_chart.specs.Drawings.{kind_of_passage, kinds_of_shafts};
 
-use crate::layout::{ABOVE_ARROW, ABOVE_CROSS, PADDING, Px, TIP_LENGTH};
+use crate::layout::{ABOVE_ARROW, ABOVE_CROSS, CONTROLLER_X, PADDING, Px, RESPONDER_X, TIP_LENGTH};
 use crate::style::Class;
 use crate::svg::Svg;
 use std::alloc::AllocError;
@@ -21,6 +22,21 @@ pub(crate) enum Passage {
     Lost,
     /// It arrives, and nothing is done.
     Refused,
+    /// It arrives as it was sent, and says that something wasn't done: a NACK, or the report of a job that failed.
+    Negative,
+}
+
+impl Passage {
+    /// That of a message that arrives as it was sent, by whether it says that something wasn't done.
+    pub(crate) fn told(negative: bool) -> Passage
+        ensures { kind_of_passage result ≡ kind_told negative }
+    {
+        if negative {
+            Passage::Negative
+        } else {
+            Passage::Whole
+        }
+    }
 }
 
 /// How an arrow looks.
@@ -32,6 +48,8 @@ pub(crate) enum Kind {
     Altered,
     /// It doesn't arrive, or nothing is done.
     Lost,
+    /// It arrives, and says that something wasn't done.
+    Negative,
 }
 
 impl Kind {
@@ -44,6 +62,7 @@ impl Kind {
             Kind::Whole => "arrow",
             Kind::Altered => "arrow altered",
             Kind::Lost => "arrow lost",
+            Kind::Negative => "arrow negative",
         }
     }
 }
@@ -74,7 +93,7 @@ impl Arrow {
     /// The room between the words of the arrow and itself.
     pub(crate) fn room_above(&self) -> Px {
         match self.passage {
-            Passage::Whole | Passage::Altered => ABOVE_ARROW,
+            Passage::Whole | Passage::Altered | Passage::Negative => ABOVE_ARROW,
             Passage::Lost | Passage::Refused => ABOVE_CROSS,
         }
     }
@@ -99,7 +118,19 @@ impl Arrow {
         match self.passage {
             Passage::Whole => ends.tip(Class::Tip, self.to, y, self.goes_right()),
             Passage::Altered => ends.tip(Class::AlteredTip, self.to, y, self.goes_right()),
+            Passage::Negative => ends.tip(Class::NegativeTip, self.to, y, self.goes_right()),
             Passage::Lost | Passage::Refused => ends.cross(end, y),
+        }
+    }
+
+    /// Where its time stands, and how: outside the lifelines between which its words are, or else before the responder.
+    pub(crate) fn time_place(&self) -> (Class, Px) {
+        if self.from == CONTROLLER_X {
+            (Class::NoteBefore, CONTROLLER_X - PADDING)
+        } else if self.to == CONTROLLER_X {
+            (Class::Note, RESPONDER_X + PADDING)
+        } else {
+            (Class::NoteBefore, RESPONDER_X - PADDING)
         }
     }
 
@@ -111,6 +142,7 @@ impl Arrow {
             Passage::Whole => Kind::Whole,
             Passage::Altered => Kind::Altered,
             Passage::Lost | Passage::Refused => Kind::Lost,
+            Passage::Negative => Kind::Negative,
         }
     }
 
@@ -118,7 +150,7 @@ impl Arrow {
     fn shaft_end(&self) -> Px {
         match self.passage {
             // within the tip
-            Passage::Whole | Passage::Altered => self.before_end(TIP_LENGTH),
+            Passage::Whole | Passage::Altered | Passage::Negative => self.before_end(TIP_LENGTH),
             // after three fifths of the way
             Passage::Lost => self.before_end(self.from.abs_diff(self.to) / 5 * 2),
             Passage::Refused => self.before_end(PADDING),

@@ -14,6 +14,7 @@ use crate::cast::Cast;
 use crate::drawing::Drawing;
 use crate::page::Picture;
 use crate::requests::request_count;
+use crate::title::{Addressed, Named};
 use rdm_trace::{Line, TraceError, lines_of};
 use rdm_words::{Before, Known};
 use std::alloc::{AllocError, Global};
@@ -36,12 +37,18 @@ pub enum ChartError {
 /// How many transactions a chart of a text can have.
 pub const MOST_TRANSACTIONS: usize = 2000;
 
-/// A trace as a sequence chart: a document of SVG 1.1, in UTF-8.
+/// A trace as a sequence chart: a document of SVG 1.1, in UTF-8. Its title has the fixture's name if the requests are for the one that is
+/// named, and for no other.
 ///
 /// One of more than [`MOST_TRANSACTIONS`] is rejected before its lines are kept. A trace that stops before its `end` is drawn as far as it
 /// goes. Remarks are left out, and a line that isn't part of a trace is rejected, but for what
 /// comes after the last end of a line: if that isn't a line, but may begin one, it was cut off, and is left out.
-pub fn chart(alloc: Global, trace: &[u8], known: &Known<'_>) -> Result<Vec<u8>, ChartError>
+pub fn chart(
+    alloc: Global,
+    trace: &[u8],
+    known: &Known<'_>,
+    named: Option<Named<'_>>,
+) -> Result<Vec<u8>, ChartError>
     ensures document { IfOk result (λ svg. IsDocument svg.items) }
     ensures arrows { IfOk result (λ svg. arrows_in svg.items ≡ kinds_said (lines_said (pieces_of trace.now))) }
     ensures whole { IfOk result (λ _. AreWhole (pieces_of trace.now)) }
@@ -56,24 +63,29 @@ pub fn chart(alloc: Global, trace: &[u8], known: &Known<'_>) -> Result<Vec<u8>, 
     let drawing = drawn(alloc, lines.as_slice(), known)?;
     // they take more memory than what is drawn of them
     drop(lines);
-    Ok(page_of(alloc, drawing)?)
+    Ok(page_of(alloc, drawing, named)?)
 }
 
-/// The lines of a trace as a sequence chart: a document of SVG 1.1, in UTF-8. Fails only if memory is refused.
-pub fn chart_of(alloc: Global, lines: &[Line], known: &Known<'_>) -> Result<Vec<u8>, AllocError>
+/// The lines of a trace as a sequence chart, as [`chart`] draws it. Fails only if memory is refused.
+pub fn chart_of(
+    alloc: Global,
+    lines: &[Line],
+    known: &Known<'_>,
+    named: Option<Named<'_>>,
+) -> Result<Vec<u8>, AllocError>
     ensures document { IfOk result (λ svg. IsDocument svg.items) }
     ensures arrows { IfOk result (λ svg. arrows_in svg.items ≡ kinds_said lines.now) }
 {
     let drawing = drawn(alloc, lines, known)?;
-    page_of(alloc, drawing)
+    page_of(alloc, drawing, named)
 }
 
 /// The document of what is drawn.
-fn page_of(alloc: Global, drawing: Drawing) -> Result<Vec<u8>, AllocError>
+fn page_of(alloc: Global, drawing: Drawing, named: Option<Named<'_>>) -> Result<Vec<u8>, AllocError>
     ensures document { IfOk result (λ svg. IsDocument svg.items) }
     ensures arrows { IfOk result (λ svg. arrows_in svg.items ≡ kinds_drawn drawing) }
 {
-    let picture = Picture::of(alloc, drawing)?;
+    let picture = Picture::of(alloc, drawing, named)?;
     Ok(picture.text(alloc)?.into_bytes())
 }
 
@@ -82,7 +94,7 @@ fn drawn(alloc: Global, lines: &[Line], known: &Known<'_>) -> Result<Drawing, Al
     ensures { IfOk result (λ drawing. kinds_drawn drawing ≡ kinds_said lines.now) }
 {
     let cast = Cast::of(alloc, lines)?;
-    let mut drawing = Drawing::new(alloc, cast)?;
+    let mut drawing = Drawing::new(alloc, cast, Addressed::by(lines))?;
     let mut before = Before::nothing();
     for line in lines {
         drawing.draw(alloc, &before, line, known)?;

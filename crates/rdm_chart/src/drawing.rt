@@ -16,8 +16,9 @@ use crate::lettering::broken_lines;
 use crate::recorded::draw_message;
 use crate::style::Class;
 use crate::svg::Svg;
-use crate::transaction::{draw_found, draw_heard, draw_reply, draw_request};
-use crate::wording::line_words;
+use crate::title::Addressed;
+use crate::transaction::{draw_found, draw_heard, draw_reply, draw_request, draw_silence};
+use crate::wording::Saying;
 use crate::work::{draw_change, draw_job, draw_report};
 use rdm_frame::Fault;
 use rdm_trace::Line;
@@ -29,6 +30,8 @@ use std::alloc::{AllocError, Global};
 pub(crate) struct Drawing {
     /// Those who take part.
     pub(crate) cast: Cast,
+    /// Whom the requests are for.
+    pub(crate) addressed: Addressed,
     /// What lies behind the lifelines.
     pub(crate) back: Svg,
     /// What lies before them.
@@ -43,10 +46,8 @@ pub(crate) struct Drawing {
     pub(crate) transactions: u64,
     /// What goes wrong with the last of them.
     pub(crate) fault: Fault,
-    /// When the next of them happened, if it is told.
+    /// When the next line happened, in milliseconds, if it is told.
     pub(crate) time: Option<u64>,
-    /// Whether there is room on the right of the last arrow, as beside a reply.
-    pub(crate) has_room_beside: bool,
     /// How many messages the controller has recorded.
     pub(crate) recorded: u64,
     /// How many of them are listed below the lifelines.
@@ -63,7 +64,7 @@ pub(crate) struct Label<'a> {
 
 impl Drawing {
     /// The heads of those who take part.
-    pub(crate) fn new(alloc: Global, cast: Cast) -> Result<Self, AllocError>
+    pub(crate) fn new(alloc: Global, cast: Cast, addressed: Addressed) -> Result<Self, AllocError>
         ensures arrows { IfOk result (λ drawing. kinds_drawn drawing ≡ []) }
         ensures fault { IfOk result (λ drawing. drawing.fault ≡ NoFault) }
     {
@@ -71,6 +72,7 @@ impl Drawing {
         draw_heads(alloc, &mut front, &cast, TOP)?;
         Ok(Drawing {
             cast,
+            addressed,
             back: Svg::new(alloc),
             front,
             arrows: Vec::new(alloc),
@@ -79,13 +81,12 @@ impl Drawing {
             transactions: 0,
             fault: Fault::None,
             time: None,
-            has_room_beside: false,
             recorded: 0,
             listed: 0,
         })
     }
 
-    /// Draws what a line says, by what went before it.
+    /// Draws what a line says, by what went before it. The time of a line that is no arrow isn't drawn.
     pub(crate) fn draw(
         &mut self,
         alloc: Global,
@@ -96,24 +97,35 @@ impl Drawing {
         ensures arrows { OnOk result (kinds_drawn self.new ≡ kinds_drawn self.old ++ kinds_of self.old.fault line.now) }
         ensures fault { OnOk result (self.new.fault ≡ fault_behind line.now self.old.fault) }
     {
+        let saying = Saying {
+            alloc,
+            before,
+            line,
+            known,
+        };
         match line {
             Line::Send { bytes, fault } => {
-                draw_request(self, alloc, bytes.as_slice(), *fault, known)
+                let words = saying.request(bytes.as_slice())?;
+                draw_request(self, alloc, words.as_str(), *fault)
             }
-            Line::Reply(reply) => draw_reply(self, alloc, reply, known),
+            Line::Reply(Some(bytes)) => {
+                let words = saying.reply(bytes.as_slice())?;
+                draw_reply(self, alloc, bytes.as_slice(), words.as_str())
+            }
+            Line::Reply(None) => draw_silence(self),
             Line::Job(job) => draw_job(self, alloc, *job),
             Line::Heard(heard) => draw_heard(self, alloc, before, *heard),
             Line::Found(uid) => draw_found(self, alloc, *uid),
-            Line::Arrive { job, .. } => {
-                let words = line_words(alloc, before, line, known)?;
-                draw_report(self, alloc, *job, words.as_str())
+            Line::Arrive { job, outcome } => {
+                let words = saying.line()?;
+                draw_report(self, alloc, *job, *outcome, words.as_str())
             }
             Line::Panel { refused, .. } => {
-                let words = line_words(alloc, before, line, known)?;
+                let words = saying.line()?;
                 draw_change(self, alloc, *refused, words.as_str())
             }
             Line::Message(_) => {
-                let words = line_words(alloc, before, line, known)?;
+                let words = saying.line()?;
                 draw_message(self, alloc, words.as_str())
             }
             Line::Time { millis } => {
@@ -143,7 +155,8 @@ impl Drawing {
         let left = arrow.left();
         let x = left.saturating_add(PADDING);
         self.skip(GAP);
-        let lines = broken_lines(alloc, label.words, room_beside(left))?;
+        self.draw_time(alloc, arrow)?;
+        let lines = broken_lines(alloc, label.words, label.class.weight(), room_beside(left))?;
         self.draw_lines(label.class, x, lines.as_slice())?;
         if !label.note.is_empty() {
             self.draw_text(Class::Note, x, label.note)?;
@@ -151,8 +164,22 @@ impl Drawing {
         self.skip(arrow.room_above());
         arrow.draw(&mut self.arrows, &mut self.front, self.y)?;
         self.skip(BELOW_ARROW);
-        self.has_room_beside = false;
         Ok(())
+    }
+
+    /// Draws when an arrow's message was sent, in the first line of its words, if that is told.
+    fn draw_time(&mut self, alloc: Global, arrow: Arrow) -> Result<(), AllocError>
+        ensures { OnOk result (IsStill self.old self.new) }
+    {
+        let Some(millis) = self.time else {
+            return Ok(());
+        };
+        self.time = None;
+        let (seconds, rest) = (millis / 1000, millis % 1000);
+        let text = format!(in alloc; "{seconds}.{rest:03} s")?;
+        let (class, x) = arrow.time_place();
+        let base = self.y.saturating_add(BASE);
+        self.front.text(class, x, base, text.as_str())
     }
 
     /// Draws lines of text below what is drawn.

@@ -7,15 +7,17 @@ pub(crate) type Px = u64;
 pub(crate) const MARGIN: Px = 24;
 /// The base line of the title.
 pub(crate) const TITLE_Y: Px = 36;
+/// The base line of what is said below it.
+pub(crate) const SUBTITLE_Y: Px = 56;
 /// The upper edge of the first row of heads.
-pub(crate) const TOP: Px = 56;
+pub(crate) const TOP: Px = 74;
 
 /// The lifeline of the controller: what it recorded stands on its left.
 pub(crate) const CONTROLLER_X: Px = 150;
 /// The lifeline of the responder.
-pub(crate) const RESPONDER_X: Px = 650;
+pub(crate) const RESPONDER_X: Px = 690;
 /// The first lifeline on the right of the responder.
-pub(crate) const WORK_X: Px = 920;
+pub(crate) const WORK_X: Px = 960;
 /// From that lifeline to the next.
 pub(crate) const WORK_STEP: Px = 150;
 

@@ -10,10 +10,11 @@ use crate::arrow::Shaft;
 use crate::cast::Cast;
 use crate::drawing::Drawing;
 use crate::element::{Attribute, Element, Key, Tag, put_end_tag, put_tag_front};
-use crate::layout::{GAP, HEAD_HEIGHT, HEAD_WIDTH, MARGIN, Px, TITLE_Y, TOP};
+use crate::layout::{GAP, HEAD_HEIGHT, HEAD_WIDTH, MARGIN, Px, SUBTITLE_Y, TITLE_Y, TOP};
 use crate::shape::{Area, Shape, TITLE_ID, put_shafts, put_shapes};
 use crate::style::Class;
 use crate::svg::Svg;
+use crate::title::{Named, Title};
 use std::alloc::{AllocError, Global};
 
 /// A picture: the attributes of its document, and its layers, in the order in which they are painted.
@@ -32,14 +33,19 @@ pub(crate) struct Picture {
 
 impl Picture {
     /// The page of a chart.
-    pub(crate) fn of(alloc: Global, drawing: Drawing) -> Result<Picture, AllocError>
+    pub(crate) fn of(
+        alloc: Global,
+        drawing: Drawing,
+        named: Option<Named<'_>>,
+    ) -> Result<Picture, AllocError>
         ensures arrows { IfOk result (λ picture. picture.arrows ≡ drawing.arrows) }
         ensures once { IfOk result (λ picture. are_once picture.attributes.items ≡ true) }
     {
         let width = width_of(&drawing.cast);
         let height = drawing.y.saturating_add(MARGIN);
         let attributes = attributes_of(alloc, width, height)?;
-        let ground = ground(alloc, drawing.transactions, width, height)?;
+        let title = Title::of(alloc, drawing.addressed, named, drawing.transactions)?;
+        let ground = ground(alloc, &title, width, height)?;
         let lives = lives(alloc, &drawing)?;
         Ok(Picture {
             attributes,
@@ -99,11 +105,11 @@ fn attributes_of(alloc: Global, width: Px, height: Px) -> Result<Vec<Attribute>,
 }
 
 /// The title of the document, how its elements look, and the page that the chart is drawn on.
-fn ground(alloc: Global, transactions: u64, width: Px, height: Px) -> Result<Svg, AllocError> {
-    let words = format!(in alloc; "A trace: {transactions} transactions")?;
+fn ground(alloc: Global, title: &Title, width: Px, height: Px) -> Result<Svg, AllocError> {
+    let (heading, detail) = (title.heading.as_str(), title.detail.as_str());
     let mut svg = Svg::new(alloc);
-    let title = String::from_str(alloc, words.as_str())?;
-    svg.shapes.push(Shape::Title(title))?;
+    let words = format!(in alloc; "{heading}: {detail}")?;
+    svg.shapes.push(Shape::Title(words))?;
     svg.shapes.push(Shape::Style)?;
     let area = Area {
         x: 1,
@@ -112,7 +118,8 @@ fn ground(alloc: Global, transactions: u64, width: Px, height: Px) -> Result<Svg
         height: height.saturating_sub(2),
     };
     svg.area(Class::Page, area, 10)?;
-    svg.text(Class::Title, MARGIN, TITLE_Y, words.as_str())?;
+    svg.text(Class::Title, MARGIN, TITLE_Y, heading)?;
+    svg.text(Class::Subtitle, MARGIN, SUBTITLE_Y, detail)?;
     Ok(svg)
 }
 

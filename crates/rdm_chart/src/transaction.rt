@@ -1,8 +1,8 @@
 //! Transactions on the bus: a request, its reply, and what the controller took this for.
 
 ghost use Rattle.std.specs.Prelude.{◌≡◌, ◌++◌, ◌∷◌, [], OnOk};
-ghost use Rattle.rdm_trace.specs.declared.line.Line.TheVariants.{Reply};
-ghost use Rattle.rdm_chart.specs.Arrows.{request_kind, kinds_of};
+ghost use Rattle.rdm_frame.specs.Reading.{frame_in};
+ghost use Rattle.rdm_chart.specs.Arrows.{is_nack, is_response, reply_kind, request_kind};
 ghost use Rattle.rdm_chart.specs.Drawings.{kinds_drawn, kind_of_passage, IsStill, IsOneMore};
 
 use crate::arrow::{Arrow, Passage};
@@ -15,19 +15,20 @@ use crate::layout::{
 use crate::page::width_of;
 use crate::shape::Area;
 use crate::style::Class;
-use crate::wording::{reply_words, request_words};
 use rdm_collector::Heard;
-use rdm_frame::{Fault, Uid, Wire};
-use rdm_words::{Before, Known};
+use rdm_frame::standard::{
+    DISCOVERY_COMMAND_RESPONSE, GET_COMMAND_RESPONSE, NACK_REASON, SET_COMMAND_RESPONSE,
+};
+use rdm_frame::{Fault, Uid, decode_view};
+use rdm_words::Before;
 use std::alloc::{AllocError, Global};
 
 /// Draws a request below what is drawn, as the beginning of a transaction.
 pub(crate) fn draw_request(
     drawing: &mut Drawing,
     alloc: Global,
-    bytes: &[u8],
+    words: &str,
     fault: Fault,
-    known: &Known<'_>,
 ) -> Result<(), AllocError>
     ensures arrows { OnOk result (kinds_drawn drawing.new ≡ kinds_drawn drawing.old ++ request_kind fault ∷ []) }
     ensures fault { OnOk result (drawing.new.fault ≡ fault) }
@@ -39,13 +40,12 @@ pub(crate) fn draw_request(
         Fault::BadRequest(_, _) => Passage::Altered,
         Fault::None | Fault::LostReply | Fault::BadReply(_, _) => Passage::Whole,
     };
-    let words = request_words(alloc, bytes, known)?;
     let arrow = Arrow {
         from: CONTROLLER_X,
         to: RESPONDER_X,
         passage,
     };
-    draw_frame(drawing, alloc, arrow, Class::Request, words.as_str())
+    draw_frame(drawing, alloc, arrow, Class::Request, words)
 }
 
 /// Draws a frame on its way, with its words and what goes wrong.
@@ -82,23 +82,7 @@ fn begin_transaction(drawing: &mut Drawing, alloc: Global) -> Result<(), AllocEr
         .front
         .text(Class::Count, MARGIN + GAP, base, text.as_str())?;
     drawing.transactions = number.saturating_add(1);
-    draw_time(drawing, alloc, base)
-}
-
-/// Draws when a transaction happened, beside its number, if that is told.
-fn draw_time(drawing: &mut Drawing, alloc: Global, base: Px) -> Result<(), AllocError>
-    ensures { OnOk result (IsStill drawing.old drawing.new) }
-{
-    let Some(millis) = drawing.time else {
-        return Ok(());
-    };
-    drawing.time = None;
-    let (seconds, rest) = (millis / 1000, millis % 1000);
-    let text = format!(in alloc; "{seconds}.{rest:03} s")?;
-    let x = CONTROLLER_X - PADDING;
-    drawing
-        .front
-        .text(Class::NoteBefore, x, base, text.as_str())
+    Ok(())
 }
 
 /// What goes wrong, in words, or nothing.
@@ -112,40 +96,63 @@ fn note_of(alloc: Global, fault: Fault, passage: Passage) -> Result<String, Allo
     }
 }
 
-/// Draws a reply below what is drawn, or a remark that there is none.
+/// Draws a reply of these bytes below what is drawn.
 pub(crate) fn draw_reply(
     drawing: &mut Drawing,
     alloc: Global,
-    reply: &Option<Wire>,
-    known: &Known<'_>,
+    bytes: &[u8],
+    words: &str,
 ) -> Result<(), AllocError>
-    ensures arrows { OnOk result (kinds_drawn drawing.new ≡ kinds_drawn drawing.old ++ kinds_of drawing.old.fault (Reply reply.now)) }
-    ensures fault { OnOk result (drawing.new.fault ≡ drawing.old.fault) }
+    ensures { OnOk result (IsOneMore (reply_kind drawing.old.fault bytes.now) drawing.old drawing.new) }
 {
-    let Some(bytes) = reply else {
-        return draw_silence(drawing);
-    };
+    let negative = is_nack(bytes);
     let passage = match drawing.fault {
         Fault::LostReply => Passage::Lost,
         Fault::BadReply(_, _) => Passage::Altered,
-        Fault::None | Fault::LostRequest | Fault::BadRequest(_, _) => Passage::Whole,
+        Fault::None | Fault::LostRequest | Fault::BadRequest(_, _) => Passage::told(negative),
     };
-    let words = reply_words(alloc, bytes.as_slice(), known)?;
     let arrow = Arrow {
         from: RESPONDER_X,
         to: CONTROLLER_X,
         passage,
     };
-    draw_frame(drawing, alloc, arrow, Class::Words, words.as_str())?;
-    drawing.has_room_beside = true;
-    Ok(())
+    draw_frame(drawing, alloc, arrow, words_class(negative), words)
+}
+
+/// How words look, by whether they say that something wasn't done.
+pub(crate) fn words_class(negative: bool) -> Class {
+    if negative {
+        Class::NegativeWords
+    } else {
+        Class::Words
+    }
+}
+
+/// Whether bytes are a NACK: a response of the type NACK_REASON.
+fn is_nack(bytes: &[u8]) -> bool
+    ensures { result ≡ is_nack (frame_in bytes.now) }
+{
+    match decode_view(bytes) {
+        Ok(frame) => is_response(frame.class) && frame.port == NACK_REASON,
+        Err(_) => false,
+    }
+}
+
+/// Whether a command class is that of a response.
+fn is_response(class: u8) -> bool
+    ensures { result ≡ is_response class }
+{
+    matches!(
+        class,
+        DISCOVERY_COMMAND_RESPONSE | GET_COMMAND_RESPONSE | SET_COMMAND_RESPONSE
+    )
 }
 
 /// A remark that a device which heard the request doesn't reply.
-fn draw_silence(drawing: &mut Drawing) -> Result<(), AllocError>
+pub(crate) fn draw_silence(drawing: &mut Drawing) -> Result<(), AllocError>
     ensures { OnOk result (IsStill drawing.old drawing.new) }
 {
-    drawing.has_room_beside = false;
+    drawing.time = None;
     if drawing.fault == Fault::LostRequest {
         return Ok(());
     }
@@ -164,6 +171,7 @@ pub(crate) fn draw_heard(
 ) -> Result<(), AllocError>
     ensures { OnOk result (IsStill drawing.old drawing.new) }
 {
+    drawing.time = None;
     match heard {
         Some(Heard::Message) => draw_recorded(drawing, alloc),
         // A device that answers a search isn't ignored.
@@ -192,6 +200,7 @@ fn draw_recorded(drawing: &mut Drawing, alloc: Global) -> Result<(), AllocError>
 pub(crate) fn draw_found(drawing: &mut Drawing, alloc: Global, uid: Uid) -> Result<(), AllocError>
     ensures { OnOk result (IsStill drawing.old drawing.new) }
 {
+    drawing.time = None;
     draw_tag(drawing, "found")?;
     drawing.skip(GAP / 2);
     let text = format!(in alloc; "{uid}")?;

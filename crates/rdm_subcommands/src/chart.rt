@@ -2,7 +2,7 @@
 
 use crate::words::MOST_BYTES;
 use clap::ArgMatches;
-use rdm_chart::{ChartError, MOST_TRANSACTIONS, chart};
+use rdm_chart::{ChartError, MOST_TRANSACTIONS, Named, chart};
 use rdm_host::fault::Fault;
 use rdm_host::fixture::FixtureFile;
 use rdm_host::host::Host;
@@ -16,9 +16,14 @@ pub fn run<'a, H: Host>(rt: H, asked: &ArgMatches<'a>) -> Result<(), Fault<'a>> 
     let picture = match FixtureFile::asked_for(rt, asked)? {
         Some(file) => {
             let fixture = file.fixture(rt)?;
-            picture(rt, source, &Known::of(fixture.uid, &fixture.profile))?
+            let named = Named {
+                uid: fixture.uid,
+                name: fixture.profile.root.model_text.as_slice(),
+            };
+            let known = Known::of(fixture.uid, &fixture.profile);
+            picture(rt, source, &known, Some(named))?
         }
-        None => picture(rt, source, &Known::nothing())?,
+        None => picture(rt, source, &Known::nothing(), None)?,
     };
     let path = asked.get_str(rdm_usage::OUTPUT).unwrap_or("-");
     save(rt, path, picture.as_slice())
@@ -29,9 +34,10 @@ fn picture<'a, H: Host>(
     rt: H,
     source: Source<'a>,
     known: &Known<'_>,
+    named: Option<Named<'_>>,
 ) -> Result<Vec<u8>, Fault<'a>> {
     let trace = source.read(rt, MOST_BYTES)?;
-    match chart(rt.alloc(), without_mark(trace.as_slice()), known) {
+    match chart(rt.alloc(), without_mark(trace.as_slice()), known, named) {
         Ok(picture) => Ok(picture),
         Err(ChartError::OutOfMemory) => Err(Fault::Memory),
         Err(ChartError::Line(line)) => Err(Fault::NoTrace(source.name(), line)),

@@ -43,7 +43,8 @@ fn show<'a, H: Host>(rt: H, asked: &ArgMatches<'a>, played: &Played) -> Result<(
     let lines = played.lines.as_slice();
     let known = played.told.known();
     if let Some(path) = asked.get_str(rdm_usage::CHART) {
-        save(rt, path, chart_of(rt.alloc(), lines, &known)?.as_slice())?;
+        let picture = chart_of(rt.alloc(), lines, &known, Some(played.told.named()))?;
+        save(rt, path, picture.as_slice())?;
         if path == "-" {
             return Ok(());
         }

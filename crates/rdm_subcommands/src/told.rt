@@ -3,9 +3,10 @@
 ghost use Rattle.std.specs.Prelude.{◌≡◌};
 
 use arrayvec::ArrayVec;
+use rdm_chart::Named;
 use rdm_fixture::Fixture;
-use rdm_frame::Uid;
 use rdm_frame::standard::MOST_SUB_DEVICES;
+use rdm_frame::{Text, Uid};
 use rdm_host::fault::Fault;
 use rdm_profile::{
     ChoiceName, ChoiceNames, Field, OwnParameters, ParameterDef, Particular, Particulars, Profile,
@@ -19,6 +20,8 @@ use std::alloc::{AllocError, Global};
 #[derive(Drop)]
 pub(crate) struct Told {
     uid: Uid,
+    /// What the model is called.
+    model: Text,
     /// It has the sub-devices, the sensors, the status texts, the maker's own parameters and the names of choices. Nothing else of a
     /// profile is told.
     profile: Profile,
@@ -27,9 +30,11 @@ pub(crate) struct Told {
 impl Told {
     /// The fixture of the demonstration. A script can give it as many sub-devices as there can be.
     pub(crate) fn demonstration() -> Told {
+        let profile = Profile::demo(MOST_SUB_DEVICES);
         Told {
             uid: DEMO_DEVICE,
-            profile: Profile::demo(MOST_SUB_DEVICES),
+            model: profile.root.model_text.copy(),
+            profile,
         }
     }
 
@@ -37,6 +42,7 @@ impl Told {
     pub(crate) fn of(alloc: Global, fixture: &Fixture) -> Result<Told, AllocError> {
         Ok(Told {
             uid: fixture.uid,
+            model: fixture.profile.root.model_text.copy(),
             profile: told_of(alloc, &fixture.profile)?,
         })
     }
@@ -44,6 +50,14 @@ impl Told {
     /// What frames don't say of it.
     pub(crate) fn known(&self) -> Known<'_> {
         Known::of(self.uid, &self.profile)
+    }
+
+    /// What a chart calls it.
+    pub(crate) fn named(&self) -> Named<'_> {
+        Named {
+            uid: self.uid,
+            name: self.model.as_slice(),
+        }
     }
 
     /// Why the script of this name and text isn't played on it to its end.

@@ -1,6 +1,7 @@
 //! What no clause says: what is drawn of a trace, and how one is read that isn't whole.
 
-use rdm_chart::{ChartError, chart, put_escaped};
+use rdm_chart::{ChartError, Named, chart, put_escaped};
+use rdm_frame::Uid;
 use rdm_words::Known;
 use std::alloc::{AllocError, Global};
 use std::process::Abort;
@@ -41,9 +42,9 @@ fn count(svg: &[u8], part: &str) -> usize {
 /// Parts, and how often each stands in a chart.
 type Parts = &'static [(&'static str, usize)];
 
-/// The chart of a trace has these parts.
-fn has(rt: &impl Abort, alloc: Global, trace: &[u8], parts: Parts) {
-    let svg = chart(alloc, trace, &Known::nothing()).expect(rt, "a chart");
+/// The chart of a trace has these parts, if this fixture is named.
+fn has(rt: &impl Abort, alloc: Global, trace: &[u8], named: Option<Named<'_>>, parts: Parts) {
+    let svg = chart(alloc, trace, &Known::nothing(), named).expect(rt, "a chart");
     for (part, expected) in parts {
         assert!(rt; count(svg.as_slice(), part) == *expected, "{part}");
     }
@@ -58,13 +59,16 @@ const ARROWS: Parts = &[
     ("class=\"arrow lost\"", 2),
     ("class=\"cross\"", 2),
     ("recorded 1</text>", 1),
+    // the heading says that the messages below it are recorded
+    ("recorded: ", 0),
+    (">SET response LAMP_STATE (0403), root</text>", 1),
     ("SET LAMP_STATE", 1),
     ("slot 20 raised by 16", 1),
 ];
 
 #[test]
 fn each_message_has_its_arrow(rt: HostRuntime) {
-    has(&rt, rt.alloc(), TRACE, ARROWS);
+    has(&rt, rt.alloc(), TRACE, None, ARROWS);
 }
 
 /// Each worker has a lifeline, and a job goes to that of its own.
@@ -103,6 +107,46 @@ const BROKEN: &[u8] =
 end
 ";
 
+/// A command that is rejected, and the same with the reply lost; a job that is done, and one that fails.
+const NEGATIVE: &[u8] = b"send CC01187FF0000000507FF000000002000100000020040300043D
+reply CC011A7FF0000000027FF00000005000020000002104030200000443
+job 0 0
+job 0 1
+heard reply
+arrive 0 0 done
+arrive 0 1 failed 04 8001 000C 0000
+send CC01187FF0000000507FF000000002000100000020040300043D lost-reply
+reply CC011A7FF0000000027FF00000005000020000002104030200000443
+heard nothing
+end
+";
+
+/// A GET of PARAMETER_DESCRIPTION, whose data are more than fit into a line.
+const DESCRIBED: &[u8] = b"send CC011A7FF0000000507FF00000000203010000002000510280040512
+reply CC01357FF0000000027FF00000005003000000002100511D800404070100000000000000FFFFFFFF000000004C454420686F7572730C76
+heard reply
+end
+";
+
+/// Times of a request, a reply, a job and its report, and of a line that isn't drawn, whose time is that of nothing else.
+const TIMED: &[u8] = b"# 1.000 s
+send CC01187FF0000000507FF000000002000100000020040300043D
+# 1.010 s
+reply CC011A7FF0000000027FF00000005000020000002104030200000443
+# 1.020 s
+job 0 0
+# 1.030 s
+heard reply
+arrive 0 0 done
+# 1.040 s
+send CC01187FF0000000507FF000000002000100000020040300043D
+# 1.050 s
+reply none
+# 1.060 s
+arrive 0 0 done
+end
+";
+
 /// Traces, and parts of their charts.
 const CHARTS: &[(&[u8], Parts)] = &[
     (
@@ -112,9 +156,9 @@ const CHARTS: &[(&[u8], Parts)] = &[
             (">worker 0</text>", 1),
             (">worker 1</text>", 1),
             // from the responder to each worker, less the tip of an arrow; the second has its lifeline, that tip, and a report
-            (" H 910\"", 1),
-            (" H 1060\"", 1),
-            ("\"M 1070 ", 3),
+            (" H 950\"", 1),
+            (" H 1100\"", 1),
+            ("\"M 1110 ", 3),
         ],
     ),
     (UNHEARD, &[("class=\"arrow lost\"", 1), ("no reply", 0)]),
@@ -141,12 +185,111 @@ const CHARTS: &[(&[u8], Parts)] = &[
             (">&quot;WWWWWWWWWWWWWWWWWWWWWWWWWWWWWWWW&quot;</text>", 1),
         ],
     ),
+    (
+        NEGATIVE,
+        &[
+            ("class=\"arrow negative\"", 2),
+            ("class=\"tip negative-tip\"", 2),
+            ("class=\"arrow lost\"", 1),
+            // two requests, two jobs, and the report of the one that is done
+            ("class=\"arrow\"", 5),
+            // the words of a NACK that is lost, too
+            ("class=\"words negative-words\"", 5),
+            (">NACK: unknown PID</text>", 2),
+            // a number stays with the word before it
+            (">values 12 and 0</text>", 1),
+        ],
+    ),
+    (
+        DESCRIBED,
+        &[
+            ("slots of data", 0),
+            (
+                ">ACK PARAMETER_DESCRIPTION: parameter 8004: &quot;LED hours&quot;,",
+                1,
+            ),
+            ("0 to 4294967295", 1),
+        ],
+    ),
+    (
+        TIMED,
+        &[
+            // before the controller
+            (" x=\"136\" y=\"140\">1.000 s</text>", 1),
+            // behind the responder
+            (" x=\"704\" y=\"173\">1.010 s</text>", 1),
+            // before the responder, level with the words of the job
+            (" x=\"676\" y=\"206\">1.020 s</text>", 1),
+            ("\"words\" x=\"704\" y=\"206\">job 0</text>", 1),
+            (">1.030 s</text>", 0),
+            (">1.040 s</text>", 1),
+            (">1.050 s</text>", 0),
+            (">1.060 s</text>", 1),
+        ],
+    ),
 ];
+
+/// The fixture for which the requests of some of these traces are, as its file names it.
+const WASH: Named<'static> = Named {
+    uid: Uid {
+        maker: 0x7FF0,
+        device: 0x50,
+    },
+    name: b"LED <wash>",
+};
+
+/// Traces, and what their titles have if that fixture is named.
+const TITLES: &[(&[u8], Parts)] = &[
+    (
+        NEGATIVE,
+        &[
+            (
+                "\"title\">LED &lt;wash&gt;: 7FF0:00000050, 2 transactions</title>",
+                1,
+            ),
+            (
+                "class=\"title\" x=\"24\" y=\"36\">LED &lt;wash&gt;</text>",
+                1,
+            ),
+            (">7FF0:00000050, 2 transactions</text>", 1),
+        ],
+    ),
+    // a broadcast is for no responder alone
+    (
+        SEARCHED,
+        &[
+            (">Responder 7FF0:00000001</text>", 1),
+            (">2 transactions</text>", 1),
+            ("LED", 0),
+        ],
+    ),
+    (MUTED, &[(">1 transaction</text>", 1)]),
+    (
+        b"send CC01187FF0000000507FF000000002000100000020040300043D
+send CC01187FF0000000517FF000000002000100000020040300043E
+",
+        &[(">Several responders</text>", 1), ("LED", 0)],
+    ),
+    (
+        b"end\n",
+        &[
+            (">No responder addressed</text>", 1),
+            (">0 transactions</text>", 1),
+        ],
+    ),
+];
+
+#[test]
+fn rows_of_titles(rt: HostRuntime) {
+    for (trace, parts) in TITLES {
+        has(&rt, rt.alloc(), trace, Some(WASH), parts);
+    }
+}
 
 #[test]
 fn rows_of_charts(rt: HostRuntime) {
     for (trace, parts) in CHARTS {
-        has(&rt, rt.alloc(), trace, parts);
+        has(&rt, rt.alloc(), trace, None, parts);
     }
 }
 
@@ -160,7 +303,7 @@ fn a_trace_is_drawn_as_far_as_it_goes(rt: HostRuntime) {
 
 /// What comes of a trace.
 fn outcome(alloc: Global, trace: &[u8]) -> Result<(), ChartError> {
-    chart(alloc, trace, &Known::nothing())?;
+    chart(alloc, trace, &Known::nothing(), None)?;
     Ok(())
 }
 
