@@ -308,7 +308,7 @@ impl ProfileNumbers {
         } }
     {
         let count = usize::from(self.language_count).min(8);
-        lists::languages(&self.languages[..count], &mut profile.languages);
+        lists::copy(&self.languages[..count], &mut profile.languages);
         let count = usize::from(self.slot_count).min(46);
         lists::fill(&self.slots[..count], &mut profile.slots);
         let count = usize::from(self.sensor_count).min(8);

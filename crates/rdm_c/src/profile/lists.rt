@@ -1,11 +1,9 @@
 //! The lists of a profile, each written in its place. Each has at most as many elements as its array.
 
-ghost use Rattle.std.specs.Prelude.{◌≡◌, ◌≤◌, IfOk, length, map};
-ghost use Rattle.rdm_c.specs.Parameters.{choice_in, lock_in, parameter_in};
+ghost use Rattle.std.specs.Prelude.{◌≡◌, ◌<◌, ◌≤◌, ◌++◌, ◌∷◌, [], ℕ, List, OnOk, length, map};
 
-use crate::profile::parameters::{ChoiceNumbers, LockNumbers, ParameterNumbers};
 use arrayvec::ArrayVec;
-use rdm_params::{ChoiceNames, Locks, OwnParameters};
+use rdm_params::{ChoiceName, ChoiceNames, Lock, Locks, OwnParameters, ParameterDef};
 use std::alloc::{AllocError, Global};
 
 /// Numbers of C that stand for an entry of a list.
@@ -18,7 +16,7 @@ pub(super) trait Numbers<T> {
         ensures { result ≡ stands_for self.now };
 }
 
-/// Makes a list that of the entries that these numbers stand for.
+/// Replaces what a list has by the entries that these numbers stand for.
 #[inline(never)]
 pub(super) fn fill<T: Default + Drop, E: Numbers<T>, const N: usize>(
     numbers: &[E],
@@ -33,62 +31,71 @@ pub(super) fn fill<T: Default + Drop, E: Numbers<T>, const N: usize>(
     }
 }
 
-/// Makes a list that of these languages.
-pub(super) fn languages(codes: &[u16], list: &mut ArrayVec<u16, 8>)
-    requires { length codes.now ≤ 8 }
-    ensures { list.new.items ≡ codes.now }
+/// Replaces what a list has by these numbers.
+pub(super) fn copy<const N: usize>(numbers: &[u16], list: &mut ArrayVec<u16, N>)
+    requires { length numbers.now ≤ N }
+    ensures { list.new.items ≡ numbers.now }
 {
     list.clear();
-    let _ = list.try_extend_from_slice(codes);
+    let _ = list.try_extend_from_slice(numbers);
 }
 
-/// Makes a list that of these PIDs.
-pub(super) fn pids(pids: &[u16], list: &mut ArrayVec<u16, 36>)
-    requires { length pids.now ≤ 36 }
-    ensures { list.new.items ≡ pids.now }
-{
-    list.clear();
-    let _ = list.try_extend_from_slice(pids);
+/// A list of a profile that takes memory.
+pub(super) trait InMemory<T> {
+    // How many entries it has room for.
+    ghost most: { ℕ };
+
+    // Its entries.
+    ghost entries: { Self → List T };
+
+    /// Adds an entry behind those that there are. There must be room.
+    fn add(&mut self, alloc: Global, entry: T) -> Result<(), AllocError>
+        requires { length (entries self.old) < most }
+        ensures { OnOk result (entries self.new ≡ entries self.old ++ entry ∷ []) };
 }
 
-/// The parameters of the maker's own, as a profile keeps them: in one block.
-pub(super) fn own_parameters(
+/// Adds the entries that these numbers stand for to a list that has none.
+pub(super) fn keep<T, E: Numbers<T>, L: InMemory<T>>(
     alloc: Global,
-    entries: &[ParameterNumbers],
-) -> Result<OwnParameters, AllocError>
-    requires { length entries.now ≤ 32 }
-    ensures { IfOk result (λ own. own ≡ map parameter_in entries.now) }
+    numbers: &[E],
+    list: &mut L,
+) -> Result<(), AllocError>
+    requires empty { L.entries list.old ≡ [] }
+    requires room { length numbers.now ≤ L.most }
+    ensures { OnOk result (L.entries list.new ≡ map E.stands_for numbers.now) }
 {
-    let mut own = OwnParameters::with_room(alloc, entries.len())?;
-    for numbers in entries {
-        own.push(alloc, numbers.entry())?;
+    for number in numbers {
+        list.add(alloc, number.entry())?;
     }
-    Ok(own)
+    Ok(())
 }
 
-/// The names of choices, as a profile keeps them.
-pub(super) fn choice_names(
-    alloc: Global,
-    entries: &[ChoiceNumbers],
-) -> Result<ChoiceNames, AllocError>
-    requires { length entries.now ≤ 64 }
-    ensures { IfOk result (λ names. names ≡ map choice_in entries.now) }
-{
-    let mut names = ChoiceNames::none();
-    for numbers in entries {
-        names.push(alloc, numbers.entry())?;
+impl InMemory<ParameterDef> for OwnParameters {
+    ghost most = { 32 };
+
+    ghost entries = { λ own. own };
+
+    fn add(&mut self, alloc: Global, entry: ParameterDef) -> Result<(), AllocError> {
+        self.push(alloc, entry)
     }
-    Ok(names)
 }
 
-/// The locks, as a profile keeps them.
-pub(super) fn profile_locks(alloc: Global, entries: &[LockNumbers]) -> Result<Locks, AllocError>
-    requires { length entries.now ≤ 64 }
-    ensures { IfOk result (λ locks. locks ≡ map lock_in entries.now) }
-{
-    let mut locks = Locks::none();
-    for numbers in entries {
-        locks.push(alloc, numbers.entry())?;
+impl InMemory<ChoiceName> for ChoiceNames {
+    ghost most = { 64 };
+
+    ghost entries = { λ names. names };
+
+    fn add(&mut self, alloc: Global, entry: ChoiceName) -> Result<(), AllocError> {
+        self.push(alloc, entry)
     }
-    Ok(locks)
+}
+
+impl InMemory<Lock> for Locks {
+    ghost most = { 64 };
+
+    ghost entries = { λ locks. locks };
+
+    fn add(&mut self, alloc: Global, entry: Lock) -> Result<(), AllocError> {
+        self.push(alloc, entry)
+    }
 }

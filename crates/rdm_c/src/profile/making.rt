@@ -19,7 +19,9 @@ use rdm_device::{
     profile_fault_with,
 };
 use rdm_frame::Text;
-use rdm_params::{ChoiceName, Lock, ParameterDef, Particular, Particulars, Profile, Unit};
+use rdm_params::{
+    ChoiceName, Lock, OwnParameters, ParameterDef, Particular, Particulars, Profile, Unit,
+};
 use std::alloc::{AllocError, Global};
 
 /// How many parameters of the maker's own there can be.
@@ -68,10 +70,11 @@ fn particulars(
     ensures { IfOk result (λ made. made ≡ particular_in numbers.now parameters.now without.now choices.now) }
 {
     let mut particular = Particular::usual();
-    particular.own = lists::own_parameters(alloc, parameters)?;
-    particular.choices = lists::choice_names(alloc, choices)?;
-    particular.locks = lists::profile_locks(alloc, numbers.lock_entries())?;
-    lists::pids(without, &mut particular.without);
+    particular.own = OwnParameters::with_room(alloc, parameters.len())?;
+    lists::keep(alloc, parameters, &mut particular.own)?;
+    lists::keep(alloc, choices, &mut particular.choices)?;
+    lists::keep(alloc, numbers.lock_entries(), &mut particular.locks)?;
+    lists::copy(without, &mut particular.without);
     particular.more_slots = numbers.more_slots;
     particular.estimates = numbers.estimates.estimates();
     Particulars::of(alloc, particular)
