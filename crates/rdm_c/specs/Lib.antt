@@ -9,6 +9,7 @@ pub mod Texts
 pub mod Parameters
 pub mod Profiles
 pub mod Endpoints
+pub mod Events
 pub mod Memory
 pub mod Messages
 pub mod SearchStates

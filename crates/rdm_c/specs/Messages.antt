@@ -1,9 +1,10 @@
 -- What a collector takes and gives, as the numbers that C has of it.
-use Rattle.std.specs.Prelude.{◌≡◌, ℕ, List, length, take, ◌==◌, if◌then◌else◌, Option, Some, None}
+use Rattle.std.specs.Prelude.{◌≡◌, ℕ, List, length, take, drop, ◌==◌, if◌then◌else◌, Option, Some, None}
 use Rattle.std.specs.Option.{option_map}
 use Rattle.rdm_collector.specs.declared.command.Action.{Action}
 use Rattle.rdm_collector.specs.declared.command.Action.TheVariants.{Disc, Get, Set}
 use Rattle.rdm_collector.specs.declared.command.Command.{Command}
+use Rattle.rdm_collector.specs.AnyDevice.Collecting.{DeviceState}
 use Rattle.rdm_collector.specs.declared.any_device.collected.Collected.{Collected}
 use Rattle.rdm_collector.specs.declared.any_device.heard.DeviceHeard.{DeviceHeard}
 use Rattle.rdm_collector.specs.declared.any_device.heard.DeviceHeard.TheVariants as heard
@@ -12,6 +13,8 @@ use Rattle.rdm_collector.specs.declared.want.Want.TheVariants.{Advisory, Warning
 use Rattle.rdm_c.specs.declared.message.CommandNumbers.{CommandNumbers}
 use Rattle.rdm_c.specs.declared.message.HeardNumbers.{HeardNumbers}
 use Rattle.rdm_c.specs.declared.message.MessageNumbers.{MessageNumbers}
+use Rattle.rdm_c.specs.declared.status.Status.TheVariants as status
+use Rattle.rdm_c.specs.Statuses.{code_of}
 use Rattle.rdm_c.specs.Endpoints.{flag}
 use Rattle.rdm_c.specs.Replies.{type_of, reason_of, tenths_of}
 
@@ -64,3 +67,12 @@ pub record Tells (n : MessageNumbers) (c : Collected) : Type 0 where
   pub body : take n.count n.bytes ≡ c.message.body
   pub repeat : n.may_repeat ≡ flag c.again
   pub loss : n.after_loss ≡ flag c.after_loss
+
+-- What C is told of the first message that was recorded, or that there is none.
+abbrev pub MessageTold : ℕ → MessageNumbers → Option Collected → Type 0
+MessageTold code n None = code ≡ code_of status.NoMore
+MessageTold code n (Some c) = (code ≡ code_of status.Done) × Tells n c
+
+-- the collector once C has the first message
+abbrev pub after_next : DeviceState → DeviceState
+after_next s = record s { recorded = drop 1 s.recorded }

@@ -1,12 +1,14 @@
 -- What a contract sees of a search, and what the calls make of one.
-use Rattle.std.specs.Prelude.{◌≡◌, ℕ, ◌+◌, ◌-◌, ◌%◌, true, false, List, []}
+use Rattle.std.specs.Prelude.{◌≡◌, ℕ, ◌+◌, ◌-◌, ◌%◌, true, false, List, [], Option, Result}
+use Rattle.rdm_frame.specs.declared.frame.Frame.{Frame}
 use Rattle.rdm_frame.specs.declared.uid.Uid.{Uid}
+use Rattle.rdm_search.specs.declared.error.SearchError.{SearchError}
 use Rattle.rdm_search.specs.declared.found.Found.{Found}
 use Rattle.rdm_search.specs.declared.stage.Stage.{Stage}
 use Rattle.rdm_search.specs.declared.stage.Stage.TheVariants.{Start, Asking}
 use Rattle.rdm_search.specs.Answers.{found_uids}
-use Rattle.rdm_search.specs.Searches.{found_after, is_repeated, unsure_after}
-use Rattle.rdm_search.specs.Stages.{Hears, whole}
+use Rattle.rdm_search.specs.Searches.{found_after, is_repeated, next_of, unsure_after}
+use Rattle.rdm_search.specs.Stages.{Hears, request_of, whole}
 
 -- the controller's UID, the number of the next transaction, how many are left, where the search stands, what it found, how many
 -- times the mute at hand was sent again, and whose answers to mutes weren't valid
@@ -23,6 +25,10 @@ pub record SearchState : Type 0 where
 abbrev pub IsNewSearch : Uid → ℕ → SearchState → Type 0
 IsNewSearch source limit s = (s.source ≡ source) × (s.left ≡ limit) × (s.stage ≡ Start) × (s.found ≡ []) × (s.again ≡ 0)
     × (s.unsure ≡ [])
+
+-- what it sends next, if it hasn't ended
+abbrev pub next_in : SearchState → Result (Option Frame) SearchError
+next_in s = next_of s.source s.tn (request_of s.stage) s.left
 
 -- What hearing these bytes makes of a search: it comes nearer to its end, on every line; it notes the answer of a device to its
 -- mute; it has one transaction fewer, and the next one's number. A mute whose answer isn't valid is sent again, and is unsure at last.

@@ -45,3 +45,9 @@ NextTold code count request (Ok (Some frame)) =
     (code ≡ code_of status.Done) × (count ≡ length (frame_text frame)) × (take count request ≡ frame_text frame)
 NextTold code count request (Ok None) = code ≡ code_of status.NoMore
 NextTold code count request (Err e) = code ≡ code_of (of_error e)
+
+-- What C is told of a fixture among those that were found, or of a device among those that are unsure: its numbers, or that there
+-- is none with this index.
+abbrev pub FoundTold : ℕ → FoundNumbers → Option Found → Type 0
+FoundTold code n None = code ≡ code_of status.NoMore
+FoundTold code n (Some f) = (code ≡ code_of status.Done) × (n ≡ found_numbers f)

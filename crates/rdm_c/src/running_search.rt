@@ -30,9 +30,9 @@ impl Model for RunningSearch {
 impl RunningSearch {
     ghost use Rattle.std.specs.Prelude.{◌≡◌, ◌+◌, ◌-◌, ◌%◌, true, false, OnOk, OnErr};
     ghost use Rattle.rdm_search.specs.Answers.{found_uids};
-    ghost use Rattle.rdm_search.specs.Searches.{found_after, is_repeated, next_of, unsure_after};
-    ghost use Rattle.rdm_search.specs.Stages.{Hears, request_of};
-    ghost use Rattle.rdm_c.specs.SearchStates.{IsNewSearch, resumed};
+    ghost use Rattle.rdm_search.specs.Searches.{found_after, is_repeated, unsure_after};
+    ghost use Rattle.rdm_search.specs.Stages.{Hears};
+    ghost use Rattle.rdm_c.specs.SearchStates.{IsNewSearch, next_in, resumed};
 
     /// A search for all fixtures, by the controller with this UID, in this many transactions at most.
     pub(crate) fn new(alloc: Global, source: Uid, limit: u32) -> RunningSearch
@@ -45,7 +45,7 @@ impl RunningSearch {
 
     /// The frame to send, if the search hasn't ended.
     pub(crate) fn next(&self) -> Result<Option<Frame>, SearchError>
-        ensures { result ≡ next_of self.now.source self.now.tn (request_of self.now.stage) self.now.left }
+        ensures { result ≡ next_in self.now }
     {
         self.search.next()
     }

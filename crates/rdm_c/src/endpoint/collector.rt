@@ -1,18 +1,18 @@
 //! What a collector does for C.
 
-ghost use Rattle.std.specs.Prelude.{◌≡◌, ◌≢◌, ◌↔◌, IfSome, IsSome, MatchOption, None, Some, drop, is_some, slice_get};
+ghost use Rattle.std.specs.Prelude.{◌≡◌, ◌≢◌, ◌↔◌, IfSome, IsSome, None, Some, is_some, slice_get};
 ghost use Rattle.rdm_collector.specs.Sending.{refusal_of, poll_request, command_request};
 ghost use Rattle.rdm_collector.specs.AnyDevice.Collecting.{sender, after_ask, after_poll, after_over, after_hearing, heard_in};
 ghost use Rattle.rdm_c.specs.Endpoints.{collector_of, found};
-ghost use Rattle.rdm_c.specs.Messages.{Tells, heard_numbers};
+ghost use Rattle.rdm_c.specs.Messages.{MessageTold, after_next, heard_numbers};
 ghost use Rattle.rdm_c.specs.Requests.{IsWritten};
-ghost use Rattle.rdm_c.specs.Statuses.{of_refusal};
+ghost use Rattle.rdm_c.specs.Statuses.{code_of, of_refusal};
 
 use crate::endpoint::Endpoint;
 use crate::front::write_front;
 use crate::message::{HeardNumbers, MessageNumbers};
 use crate::status::Status;
-use rdm_collector::{AskError, Command, DeviceCollector, PollError};
+use rdm_collector::{AskError, Command, PollError};
 use rdm_frame::standard::MOST_SLOTS;
 
 /// Sends a command: writes its request to the front.
@@ -31,25 +31,9 @@ pub(crate) fn ask(
     ensures absent { (result ≡ Status.Absent) ↔ (collector_of endpoint.old ≡ None) }
     ensures known { result ≢ Status.Unknown }
 {
-    match endpoint {
-        Endpoint::Responder(_) | Endpoint::Searcher(_) => Status::Absent,
-        Endpoint::Collector(collector) => send(collector, command, request, count),
-    }
-}
-
-/// Sends a command, as `ask`.
-fn send(
-    collector: &mut DeviceCollector,
-    command: &Command,
-    request: &mut [u8; MOST_SLOTS],
-    count: &mut usize,
-) -> Status
-    ensures refused { result ≡ of_refusal (refusal_of (sender collector.old) command.now) }
-    ensures sent { result ≡ Status.Done → IsWritten count.new request.new (command_request (sender collector.old) command.now) }
-    ensures after { result ≡ Status.Done → collector.new ≡ after_ask collector.old command.now }
-    ensures same { result ≢ Status.Done → collector.new ≡ collector.old }
-    ensures found { (result ≢ Status.Absent) × (result ≢ Status.Unknown) }
-{
+    let Endpoint::Collector(collector) = endpoint else {
+        return Status::Absent;
+    };
     match collector.ask(command) {
         Ok(wire) => {
             *count = write_front(wire.as_slice(), request);
@@ -76,25 +60,9 @@ pub(crate) fn poll(
     ensures absent { (result ≡ Status.Absent) ↔ (collector_of endpoint.old ≡ None) }
     ensures statuses { result ≢ Status.Done → result ≢ Status.Absent → result ≢ Status.Busy → result ≡ Status.OutOfMemory }
 {
-    match endpoint {
-        Endpoint::Responder(_) | Endpoint::Searcher(_) => Status::Absent,
-        Endpoint::Collector(collector) => send_poll(collector, request, count),
-    }
-}
-
-/// Sends a poll, as `poll`.
-fn send_poll(
-    collector: &mut DeviceCollector,
-    request: &mut [u8; MOST_SLOTS],
-    count: &mut usize,
-) -> Status
-    ensures busy { (result ≡ Status.Busy) ↔ IsSome collector.old.transaction }
-    ensures sent { result ≡ Status.Done → IsWritten count.new request.new (poll_request (sender collector.old)) }
-    ensures after { result ≡ Status.Done → collector.new ≡ after_poll collector.old }
-    ensures same { result ≢ Status.Done → collector.new ≡ collector.old }
-    ensures found { result ≢ Status.Absent }
-    ensures statuses { result ≢ Status.Done → result ≢ Status.Busy → result ≡ Status.OutOfMemory }
-{
+    let Endpoint::Collector(collector) = endpoint else {
+        return Status::Absent;
+    };
     match collector.poll() {
         Ok(wire) => {
             *count = write_front(wire.as_slice(), request);
@@ -113,13 +81,11 @@ pub(crate) fn hear(endpoint: &mut Endpoint, bytes: &[u8], heard: &mut HeardNumbe
         collector_of endpoint.new ≡ Some (after_hearing s bytes.now)) }
     ensures absent { result ≢ Status.Done → endpoint.new ≡ endpoint.old }
 {
-    match endpoint {
-        Endpoint::Responder(_) | Endpoint::Searcher(_) => Status::Absent,
-        Endpoint::Collector(collector) => {
-            *heard = HeardNumbers::of(collector.hear(bytes));
-            Status::Done
-        }
-    }
+    let Endpoint::Collector(collector) = endpoint else {
+        return Status::Absent;
+    };
+    *heard = HeardNumbers::of(collector.hear(bytes));
+    Status::Done
 }
 
 /// Ends the open transaction, if there is one, without an answer.
@@ -128,38 +94,23 @@ pub(crate) fn over(endpoint: &mut Endpoint) -> Status
     ensures after { IfSome (collector_of endpoint.old) (λ s. collector_of endpoint.new ≡ Some (after_over s)) }
     ensures absent { result ≢ Status.Done → endpoint.new ≡ endpoint.old }
 {
-    match endpoint {
-        Endpoint::Responder(_) | Endpoint::Searcher(_) => Status::Absent,
-        Endpoint::Collector(collector) => {
-            collector.over();
-            Status::Done
-        }
-    }
+    let Endpoint::Collector(collector) = endpoint else {
+        return Status::Absent;
+    };
+    collector.over();
+    Status::Done
 }
 
 /// Takes the first of what was recorded, and tells of it.
 pub(crate) fn next(endpoint: &mut Endpoint, message: &mut MessageNumbers) -> Status
-    ensures next { IfSome (collector_of endpoint.old) (λ s. MatchOption (slice_get s.recorded 0) (result ≡ Status.NoMore)
-        (λ c. (result ≡ Status.Done) × Tells message.new c)) }
-    ensures after { IfSome (collector_of endpoint.old) (λ s. result ≡ Status.Done →
-        collector_of endpoint.new ≡ Some (record s { recorded = drop 1 s.recorded })) }
+    ensures next { IfSome (collector_of endpoint.old) (λ s. MessageTold (code_of result) message.new (slice_get s.recorded 0)) }
+    ensures after { IfSome (collector_of endpoint.old) (λ s. result ≡ Status.Done → collector_of endpoint.new ≡ Some (after_next s)) }
     ensures absent { (result ≡ Status.Absent) ↔ (collector_of endpoint.old ≡ None) }
     ensures same { result ≢ Status.Done → endpoint.new ≡ endpoint.old }
 {
-    match endpoint {
-        Endpoint::Responder(_) | Endpoint::Searcher(_) => Status::Absent,
-        Endpoint::Collector(collector) => take_first(collector, message),
-    }
-}
-
-/// Takes the first of what was recorded, as `next`.
-fn take_first(collector: &mut DeviceCollector, message: &mut MessageNumbers) -> Status
-    ensures next { MatchOption (slice_get collector.old.recorded 0) (result ≡ Status.NoMore)
-        (λ c. (result ≡ Status.Done) × Tells message.new c) }
-    ensures after { result ≡ Status.Done → collector.new ≡ record collector.old { recorded = drop 1 collector.old.recorded } }
-    ensures found { result ≢ Status.Absent }
-    ensures same { result ≢ Status.Done → collector.new ≡ collector.old }
-{
+    let Endpoint::Collector(collector) = endpoint else {
+        return Status::Absent;
+    };
     let Some(first) = collector.recorded().first() else {
         return Status::NoMore;
     };

@@ -1,17 +1,17 @@
 //! What a responder does for C.
 
-ghost use Rattle.std.specs.Prelude.{◌≡◌, ◌≢◌, ◌↔◌, false, length};
+ghost use Rattle.std.specs.Prelude.{◌≡◌, ◌≢◌, ◌↔◌, Some, false, length};
 ghost use Rattle.rdm_added.specs.Map.{value_at};
 ghost use Rattle.rdm_params.specs.Commands.Commands.{got};
 ghost use Rattle.rdm_outbox.specs.Jobs.{has_place, outstanding_count, waiting_of};
 ghost use Rattle.rdm_responder.specs.History.{History, Heard, Arrived, Changed, then_event};
-ghost use Rattle.rdm_responder.specs.Lawful.{IsLawful};
 ghost use Rattle.rdm_responder.specs.Rules.{account_of};
 ghost use Rattle.rdm_responder.specs.Runs.{outbox_of};
 ghost use Rattle.rdm_responder.specs.StandsFor.{StandsFor};
 ghost use Rattle.rdm_c.specs.Steps.{ChangeTold, NoChangeTold, ReplyTold, StartTold};
 ghost use Rattle.rdm_c.specs.Statuses.{code_of};
-ghost use Rattle.rdm_c.specs.Endpoints.{changed, GetTold, IsFor, KeptTold, MayReport, found, flag, is_noted, is_responder};
+ghost use Rattle.rdm_c.specs.Endpoints.{changed, GetTold, IsFor, KeptTold, MayReport, found, flag, is_responder};
+ghost use Rattle.rdm_c.specs.Events.{DoneIf, GoesOn, NotingTold};
 
 use crate::endpoint::{Endpoint, RunningResponder};
 use crate::front::write_front;
@@ -37,39 +37,18 @@ pub(crate) fn step(
     ensures absent { result ≢ Status.Done →
         (endpoint.new ≡ endpoint.old) × (stepped.new.replied ≡ 0) × (stepped.new.started ≡ 0) × (stepped.new.changed ≡ 0) }
 {
-    match endpoint {
-        Endpoint::Responder(running) => {
-            hear(running, bytes, reply, stepped);
-            Status::Done
-        }
-        Endpoint::Collector(_) | Endpoint::Searcher(_) => {
-            stepped.clear();
-            Status::Absent
-        }
-    }
-}
-
-/// Hears bytes, as `step`.
-fn hear(
-    running: &mut RunningResponder,
-    bytes: &[u8],
-    reply: &mut [u8; MOST_SLOTS],
-    stepped: &mut SteppedNumbers,
-)
-    ensures reply { (h : History) → StandsFor running.old.responder h → ReplyTold h bytes.now reply.new stepped.new }
-    ensures job { (h : History) → StandsFor running.old.responder h → StartTold h bytes.now stepped.new }
-    ensures stands { (h : History) → StandsFor running.old.responder h → StandsFor running.new.responder (then_event h (Heard bytes.now)) }
-    ensures unchanged { (h : History) → StandsFor running.old.responder h → NoChangeTold h bytes.now stepped.new }
-    ensures change { ChangeTold bytes.now stepped.new }
-{
-    let outcome = running.responder.step_into(bytes, &mut running.wire);
     stepped.clear();
+    let Endpoint::Responder(running) = endpoint else {
+        return Status::Absent;
+    };
+    let outcome = running.responder.step_into(bytes, &mut running.wire);
     if outcome.replied {
         stepped.count = write_front(running.wire.as_slice(), reply);
         stepped.replied = 1;
     }
     stepped.tell_job(outcome.started);
     stepped.tell_change(outcome.changed);
+    Status::Done
 }
 
 /// Takes the report of a job, of which C handed in these numbers, and says whether it noted a status entry.
@@ -80,34 +59,15 @@ pub(crate) fn arrive(
     kept: &mut u8,
 ) -> Status
     ensures absent { (result ≡ Status.Absent) ↔ (is_responder endpoint.old ≡ false) }
-    ensures lawful { (h : History) → IsLawful h → IsFor endpoint.old h → ((result ≡ Status.Done) ↔ MayReport h job.now report) }
-    ensures stands { (h : History) → IsFor endpoint.old h → result ≡ Status.Done → IsFor endpoint.new (then_event h (Arrived report)) }
-    ensures kept { (h : History) → IsFor endpoint.old h → result ≡ Status.Done → kept.new ≡ flag (is_noted h (Arrived report)) }
+    ensures lawful { DoneIf (code_of result) (Some endpoint.old) (λ h. MayReport h job.now report) }
+    ensures stands { GoesOn (code_of result) (Some endpoint.old) (Arrived report) (Some endpoint.new) }
+    ensures kept { NotingTold (code_of result) (Some endpoint.old) (Arrived report) kept.new }
     ensures same { result ≢ Status.Done → endpoint.new ≡ endpoint.old }
     ensures statuses { (result ≢ Status.Absent) → result ≢ Status.Done → result ≡ Status.Astray }
 {
-    match endpoint {
-        Endpoint::Responder(running) => take_report(running, job, report, kept),
-        Endpoint::Collector(_) | Endpoint::Searcher(_) => Status::Absent,
-    }
-}
-
-/// Takes the report of a job, as `arrive`.
-fn take_report(
-    running: &mut RunningResponder,
-    job: &JobNumbers,
-    report: Report,
-    kept: &mut u8,
-) -> Status
-    ensures lawful { (h : History) → IsLawful h → StandsFor running.old.responder h →
-        ((result ≡ Status.Done) ↔ MayReport h job.now report) }
-    ensures stands { (h : History) → StandsFor running.old.responder h → result ≡ Status.Done →
-        StandsFor running.new.responder (then_event h (Arrived report)) }
-    ensures kept { (h : History) → StandsFor running.old.responder h → result ≡ Status.Done →
-        kept.new ≡ flag (is_noted h (Arrived report)) }
-    ensures same { result ≢ Status.Done → running.new ≡ running.old }
-    ensures statuses { result ≢ Status.Done → result ≡ Status.Astray }
-{
+    let Endpoint::Responder(running) = endpoint else {
+        return Status::Absent;
+    };
     if !job.is_as_told(running.responder.devices(), &report.job) {
         return Status::Astray;
     }

@@ -1,11 +1,10 @@
 //! What a search does for C.
 
-ghost use Rattle.std.specs.Prelude.{◌≡◌, ◌≢◌, ◌↔◌, IfSome, IsSomeAnd, MatchOption, None, Some, is_some, length, slice_get};
-ghost use Rattle.rdm_search.specs.Searches.{next_of};
-ghost use Rattle.rdm_search.specs.Stages.{request_of};
+ghost use Rattle.std.specs.Prelude.{◌≡◌, ◌≢◌, ◌↔◌, IfSome, IsSomeAnd, None, Some, is_some, length, slice_get};
+ghost use Rattle.std.specs.Option.{option_map};
 ghost use Rattle.rdm_c.specs.Endpoints.{found, search_of};
-ghost use Rattle.rdm_c.specs.SearchStates.{HasHeard, resumed};
-ghost use Rattle.rdm_c.specs.Searches.{NextTold, found_numbers, heard_of};
+ghost use Rattle.rdm_c.specs.SearchStates.{HasHeard, next_in, resumed};
+ghost use Rattle.rdm_c.specs.Searches.{FoundTold, NextTold, heard_of};
 ghost use Rattle.rdm_c.specs.Statuses.{code_of};
 
 use crate::endpoint::Endpoint;
@@ -19,7 +18,7 @@ use rdm_search::{Found, SearchError};
 /// Writes the next request to the front, if the search hasn't ended.
 pub(crate) fn next(endpoint: &Endpoint, request: &mut [u8; MOST_SLOTS], count: &mut usize) -> Status
     ensures told { IfSome (search_of endpoint.now) (λ s.
-        NextTold (code_of result) count.new request.new (next_of s.source s.tn (request_of s.stage) s.left)) }
+        NextTold (code_of result) count.new request.new (next_in s)) }
     ensures absent { (result ≡ Status.Absent) ↔ (search_of endpoint.now ≡ None) }
 {
     let Endpoint::Searcher(search) = endpoint else {
@@ -60,13 +59,11 @@ pub(crate) fn resume(endpoint: &mut Endpoint, limit: u32) -> Status
     ensures after { IfSome (search_of endpoint.old) (λ s. search_of endpoint.new ≡ Some (resumed s limit)) }
     ensures same { search_of endpoint.old ≡ None → endpoint.new ≡ endpoint.old }
 {
-    match endpoint {
-        Endpoint::Responder(_) | Endpoint::Collector(_) => Status::Absent,
-        Endpoint::Searcher(search) => {
-            search.resume(limit);
-            Status::Done
-        }
-    }
+    let Endpoint::Searcher(search) = endpoint else {
+        return Status::Absent;
+    };
+    search.resume(limit);
+    Status::Done
 }
 
 /// Tells how many fixtures were found.
@@ -83,8 +80,7 @@ pub(crate) fn count(endpoint: &Endpoint, count: &mut usize) -> Status
 
 /// Tells of the fixture with this index among those that were found.
 pub(crate) fn fixture(endpoint: &Endpoint, index: usize, fixture: &mut FoundNumbers) -> Status
-    ensures told { IfSome (search_of endpoint.now) (λ s. MatchOption (slice_get s.found index) (result ≡ Status.NoMore)
-        (λ f. (result ≡ Status.Done) × (fixture.new ≡ found_numbers f))) }
+    ensures told { IfSome (search_of endpoint.now) (λ s. FoundTold (code_of result) fixture.new (slice_get s.found index)) }
     ensures absent { (result ≡ Status.Absent) ↔ (search_of endpoint.now ≡ None) }
 {
     let Endpoint::Searcher(search) = endpoint else {
@@ -99,8 +95,8 @@ pub(crate) fn fixture(endpoint: &Endpoint, index: usize, fixture: &mut FoundNumb
 
 /// Tells of the device with this index among those whose answers to mutes weren't valid.
 pub(crate) fn unsure(endpoint: &Endpoint, index: usize, fixture: &mut FoundNumbers) -> Status
-    ensures told { IfSome (search_of endpoint.now) (λ s. MatchOption (slice_get s.unsure index) (result ≡ Status.NoMore)
-        (λ uid. (result ≡ Status.Done) × (fixture.new ≡ found_numbers (heard_of uid)))) }
+    ensures told { IfSome (search_of endpoint.now) (λ s.
+        FoundTold (code_of result) fixture.new (option_map heard_of (slice_get s.unsure index))) }
     ensures absent { (result ≡ Status.Absent) ↔ (search_of endpoint.now ≡ None) }
 {
     let Endpoint::Searcher(search) = endpoint else {

@@ -1,13 +1,13 @@
 //! The collector, as C calls it.
 
-ghost use Rattle.std.specs.Prelude.{◌≡◌, ◌≢◌, ◌↔◌, ◌⊎◌, IfSome, IsSome, MatchOption, None, Some, drop, is_some, slice_get};
+ghost use Rattle.std.specs.Prelude.{◌≡◌, ◌≢◌, ◌↔◌, ◌⊎◌, IfSome, IsSome, None, Some, is_some, slice_get};
 ghost use denote.RawPtr.{Testable};
 ghost use types.Logic.{sem};
 ghost use Rattle.rdm_collector.specs.Sending.{refusal_of, poll_request, command_request};
 ghost use Rattle.rdm_collector.specs.AnyDevice.Collecting.{new_device_collector, sender, after_ask, after_poll, after_over, after_hearing, heard_in};
 ghost use Rattle.rdm_c.specs.Places.{handle_at, nobody};
 ghost use Rattle.rdm_c.specs.Endpoints.{found, held_collector};
-ghost use Rattle.rdm_c.specs.Messages.{Tells, action_in, command_in, heard_numbers, want_in};
+ghost use Rattle.rdm_c.specs.Messages.{MessageTold, action_in, after_next, command_in, heard_numbers, want_in};
 ghost use Rattle.rdm_c.specs.Requests.{IsWritten};
 ghost use Rattle.rdm_c.specs.Statuses.{code_of, of_refusal};
 
@@ -173,10 +173,9 @@ pub extern "C" fn felosumay_collector_next(
     collector: &mut Handle,
     message: &mut MessageNumbers,
 ) -> u8
-    ensures next { IfSome (held_collector collector.old.held) (λ s. MatchOption (slice_get s.recorded 0)
-        (result ≡ code_of Status.NoMore) (λ c. (result ≡ code_of Status.Done) × Tells message.new c)) }
+    ensures next { IfSome (held_collector collector.old.held) (λ s. MessageTold result message.new (slice_get s.recorded 0)) }
     ensures after { IfSome (held_collector collector.old.held) (λ s. result ≡ code_of Status.Done →
-        held_collector collector.new.held ≡ Some (record s { recorded = drop 1 s.recorded })) }
+        held_collector collector.new.held ≡ Some (after_next s)) }
     ensures absent { (result ≡ code_of Status.Absent) ↔ (held_collector collector.old.held ≡ None) }
     ensures same { result ≢ code_of Status.Done → collector.new.held ≡ collector.old.held }
 {

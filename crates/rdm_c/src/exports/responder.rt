@@ -6,7 +6,6 @@ ghost use types.Logic.{sem};
 ghost use Rattle.rdm_profile.specs.Demo.{demo};
 ghost use Rattle.rdm_outbox.specs.Settings.{most_entries};
 ghost use Rattle.rdm_responder.specs.History.{History, Heard, Arrived, empty_history, then_event};
-ghost use Rattle.rdm_responder.specs.Lawful.{IsLawful};
 ghost use Rattle.rdm_responder.specs.Settings.{HasBadSize, HasBadUid, setup_with};
 ghost use Rattle.rdm_c.specs.Places.{handle_at, nobody};
 ghost use Rattle.rdm_c.specs.Statuses.{code_of};
@@ -14,7 +13,8 @@ ghost use Rattle.rdm_c.specs.Making.{MakingTold, settings_of};
 ghost use Rattle.rdm_c.specs.Steps.{ChangeTold, NoChangeTold, ReplyTold, StartTold};
 ghost use Rattle.rdm_c.specs.Outcomes.{report_in};
 ghost use Rattle.rdm_c.specs.Profiles.{profile_in};
-ghost use Rattle.rdm_c.specs.Endpoints.{HeldFor, MayReport, found, holds_responder, flag, is_noted};
+ghost use Rattle.rdm_c.specs.Endpoints.{HeldFor, MayReport, found, holds_responder};
+ghost use Rattle.rdm_c.specs.Events.{AstrayUnless, DoneIf, GoesOn, NotingTold};
 
 use crate::endpoint::responder::{arrive, step};
 use crate::endpoint::{Endpoint, RunningResponder};
@@ -155,14 +155,10 @@ pub extern "C" fn felosumay_responder_arrive(
     ensures unknown { (result ≡ code_of Status.Unknown) ↔ (report_in job.now outcome.now ≡ None) }
     ensures absent { IfSome (report_in job.now outcome.now) (λ r.
         (result ≡ code_of Status.Absent) ↔ (holds_responder responder.old.held ≡ false)) }
-    ensures lawful { IfSome (report_in job.now outcome.now) (λ r. (h : History) → IsLawful h → HeldFor responder.old.held h →
-        ((result ≡ code_of Status.Done) ↔ MayReport h job.now r)) }
-    ensures astray { IfSome (report_in job.now outcome.now) (λ r. (h : History) → IsLawful h → HeldFor responder.old.held h →
-        ((result ≡ code_of Status.Astray) ↔ ¬ MayReport h job.now r)) }
-    ensures stands { IfSome (report_in job.now outcome.now) (λ r. (h : History) → HeldFor responder.old.held h →
-        result ≡ code_of Status.Done → HeldFor responder.new.held (then_event h (Arrived r))) }
-    ensures kept { IfSome (report_in job.now outcome.now) (λ r. (h : History) → HeldFor responder.old.held h →
-        result ≡ code_of Status.Done → kept.new ≡ flag (is_noted h (Arrived r))) }
+    ensures lawful { IfSome (report_in job.now outcome.now) (λ r. DoneIf result responder.old.held (λ h. MayReport h job.now r)) }
+    ensures astray { IfSome (report_in job.now outcome.now) (λ r. AstrayUnless result responder.old.held (λ h. MayReport h job.now r)) }
+    ensures stands { IfSome (report_in job.now outcome.now) (λ r. GoesOn result responder.old.held (Arrived r) responder.new.held) }
+    ensures kept { IfSome (report_in job.now outcome.now) (λ r. NotingTold result responder.old.held (Arrived r) kept.new) }
     ensures same { result ≢ code_of Status.Done → responder.new.held ≡ responder.old.held }
 {
     let Some(report) = report_in(job, outcome) else {

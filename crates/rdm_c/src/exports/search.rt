@@ -1,14 +1,13 @@
 //! The search for the fixtures of a line, as C calls it.
 
-ghost use Rattle.std.specs.Prelude.{◌≡◌, ◌≢◌, ◌↔◌, IfSome, IsSomeAnd, MatchOption, None, Some, is_some, length, slice_get};
+ghost use Rattle.std.specs.Prelude.{◌≡◌, ◌≢◌, ◌↔◌, IfSome, IsSomeAnd, None, Some, is_some, length, slice_get};
+ghost use Rattle.std.specs.Option.{option_map};
 ghost use denote.RawPtr.{Testable};
 ghost use types.Logic.{sem};
-ghost use Rattle.rdm_search.specs.Searches.{next_of};
-ghost use Rattle.rdm_search.specs.Stages.{request_of};
 ghost use Rattle.rdm_c.specs.Places.{handle_at, nobody};
 ghost use Rattle.rdm_c.specs.Endpoints.{found, held_search};
-ghost use Rattle.rdm_c.specs.SearchStates.{HasHeard, IsNewSearch, resumed};
-ghost use Rattle.rdm_c.specs.Searches.{NextTold, found_numbers, heard_of};
+ghost use Rattle.rdm_c.specs.SearchStates.{HasHeard, IsNewSearch, next_in, resumed};
+ghost use Rattle.rdm_c.specs.Searches.{FoundTold, NextTold, heard_of};
 ghost use Rattle.rdm_c.specs.Statuses.{code_of};
 
 use crate::endpoint;
@@ -59,8 +58,7 @@ pub extern "C" fn felosumay_search_next(
     request: &mut [u8; MOST_SLOTS],
     count: &mut usize,
 ) -> u8
-    ensures told { IfSome (held_search search.old.held) (λ s.
-        NextTold result count.new request.new (next_of s.source s.tn (request_of s.stage) s.left)) }
+    ensures told { IfSome (held_search search.old.held) (λ s. NextTold result count.new request.new (next_in s)) }
     ensures absent { (result ≡ code_of Status.Absent) ↔ (held_search search.old.held ≡ None) }
     ensures same { search.new.held ≡ search.old.held }
 {
@@ -137,9 +135,7 @@ pub extern "C" fn felosumay_search_found(
     index: usize,
     fixture: &mut FoundNumbers,
 ) -> u8
-    ensures told { IfSome (held_search search.old.held) (λ s.
-        MatchOption (slice_get s.found index) (result ≡ code_of Status.NoMore)
-        (λ f. (result ≡ code_of Status.Done) × (fixture.new ≡ found_numbers f))) }
+    ensures told { IfSome (held_search search.old.held) (λ s. FoundTold result fixture.new (slice_get s.found index)) }
     ensures absent { (result ≡ code_of Status.Absent) ↔ (held_search search.old.held ≡ None) }
     ensures same { search.new.held ≡ search.old.held }
 {
@@ -161,8 +157,7 @@ pub extern "C" fn felosumay_search_unsure(
     fixture: &mut FoundNumbers,
 ) -> u8
     ensures told { IfSome (held_search search.old.held) (λ s.
-        MatchOption (slice_get s.unsure index) (result ≡ code_of Status.NoMore)
-        (λ uid. (result ≡ code_of Status.Done) × (fixture.new ≡ found_numbers (heard_of uid)))) }
+        FoundTold result fixture.new (option_map heard_of (slice_get s.unsure index))) }
     ensures absent { (result ≡ code_of Status.Absent) ↔ (held_search search.old.held ≡ None) }
     ensures same { search.new.held ≡ search.old.held }
 {

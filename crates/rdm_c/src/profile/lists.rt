@@ -1,4 +1,4 @@
-//! The lists of a profile, each written in its place. Each has at most as many elements as its array.
+//! The lists of a profile, each filled where it lies: in its array, or in memory. None gets more entries than it has room for.
 
 ghost use Rattle.std.specs.Prelude.{◌≡◌, ◌<◌, ◌≤◌, ◌++◌, ◌∷◌, [], ℕ, List, OnOk, length, map};
 
