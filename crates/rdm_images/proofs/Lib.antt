@@ -9,3 +9,4 @@ pub mod Altering
 pub mod Erasing
 pub mod Placing
 pub mod Restarting
+pub mod Saving

@@ -1,7 +1,7 @@
 //! From values to the image of them.
 
-ghost use Rattle.std.specs.Prelude.{◌≡◌, ◌+◌, ◌-◌, ◌*◌, ◌^◌, ◌≤◌, ◌<◌, length, sum};
-ghost use Rattle.rdm_images.specs.ImageText.{image_text, header_text, IsImage};
+ghost use Rattle.std.specs.Prelude.{◌≡◌, ◌+◌, ◌-◌, ◌*◌, ◌^◌, ◌≤◌, ◌<◌, ◌++◌, length, sum};
+ghost use Rattle.rdm_images.specs.ImageText.{image_text, IsImage};
 
 use crate::image::HEADER_BYTES;
 
@@ -13,16 +13,18 @@ pub fn encode_image(key: u32, counter: u16, payload: &[u8], out: &mut [u8])
     ensures text { out.new ≡ image_text key counter payload.now }
     ensures fits { IsImage key counter payload.now }
 {
-    let header = header(key, counter, payload);
+    let header = image_header(key, counter, payload);
     let (front, rest) = out.split_at_mut(HEADER_BYTES);
     front.copy_from_slice(&header);
     rest.copy_from_slice(payload);
 }
 
-/// The check, the key, the counter and the length.
-fn header(key: u32, counter: u16, payload: &[u8]) -> [u8; HEADER_BYTES]
-    requires { length payload.now < 2 ^ 16 }
-    ensures { result ≡ header_text key counter payload.now }
+/// The bytes of an image that stand before its payload: the check, the key, the counter and the length.
+#[tactic(auto, unfolding(crate::specs::ImageText::image_text))]
+pub fn image_header(key: u32, counter: u16, payload: &[u8]) -> [u8; HEADER_BYTES]
+    requires short { length payload.now < 2 ^ 16 }
+    ensures text { result ++ payload.now ≡ image_text key counter payload.now }
+    ensures fits { IsImage key counter payload.now }
 {
     let key = key.to_be_bytes();
     let counter = counter.to_be_bytes();

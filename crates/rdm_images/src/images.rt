@@ -3,9 +3,10 @@
 ghost use Rattle.std.specs.Prelude.{◌≡◌, ◌≢◌, ◌↔◌, ◌⊎◌, ◌+◌, ◌<◌, ◌≤◌, ◌^◌, length, OnOk, OnErr, IfOk, IsErrOf, MatchOption, Option, Some, None, Err, IfErr};
 ghost use Rattle.rdm_images.specs.declared.memory.Side.{Side as TheSide};
 ghost use Rattle.rdm_images.specs.declared.memory.MemoryFault.{MemoryFault as TheFault};
-ghost use Rattle.rdm_images.specs.Areas.{other, loaded, newest, next_side, next_counter, said_of, said_by, AreSound, IsSound, IsErased};
+ghost use Rattle.rdm_images.specs.Areas.{other, loaded, newest, said_of, AreSound, IsSound, IsErased};
 ghost use Rattle.rdm_images.specs.Reading.{held, saved};
 
+use crate::choosing::{newest_image, next_image};
 use crate::decoding::decode_image;
 use crate::encoding::encode_image;
 use crate::image::{HEADER_BYTES, Image, MOST_PAYLOAD};
@@ -127,8 +128,8 @@ impl<M: Memory + Drop> Images<M> {
             return Err(ImagesError::TooLong);
         }
         let found = self.find(buffer)?;
-        let (side, counter) = next(found);
-        self.replace(side, counter, payload, buffer)
+        let next = next_image(found);
+        self.replace(next.side, next.counter, payload, buffer)
     }
 
     /// Where the newest image is, and what its header says. The buffer holds one area or the other then.
@@ -149,7 +150,7 @@ impl<M: Memory + Drop> Images<M> {
         let first = decode_image(self.key, buffer).ok();
         self.memory.read(Side::Second, buffer)?;
         let second = decode_image(self.key, buffer).ok();
-        Ok(newer(first, second))
+        Ok(newest_image(first, second))
     }
 
     /// Writes an image into an area, which is erased before.
@@ -181,35 +182,5 @@ impl<M: Memory + Drop> Images<M> {
         self.memory.erase(side)?;
         self.memory.write(side, image)?;
         Ok(())
-    }
-}
-
-/// The newer of two images: the second one if its counter is the next after that of the first, and else the first.
-fn newer(first: Option<Image>, second: Option<Image>) -> Option<(Side, Image)>
-    ensures { result ≡ said_by first second }
-{
-    match (first, second) {
-        (None, None) => None,
-        (None, Some(second)) => Some((Side::Second, second)),
-        (Some(first), None) => Some((Side::First, first)),
-        (Some(first), Some(second)) => {
-            if second.counter == first.counter.wrapping_add(1) {
-                Some((Side::Second, second))
-            } else {
-                Some((Side::First, first))
-            }
-        }
-    }
-}
-
-/// Where the next image goes, and its counter: into the other area, and into the first if there is none.
-fn next(found: Option<(Side, Image)>) -> (Side, u16)
-    ensures side { result.0 ≡ next_side found }
-    ensures counter { result.1 ≡ next_counter found }
-{
-    match found {
-        None => (Side::First, 0),
-        Some((Side::First, image)) => (Side::Second, image.counter.wrapping_add(1)),
-        Some((Side::Second, image)) => (Side::First, image.counter.wrapping_add(1)),
     }
 }

@@ -3,6 +3,7 @@
 ghost use Rattle.std.specs.Prelude.{◌≡◌, ◌↔◌, IsTrue};
 ghost use Rattle.rdm_images.specs.Laws.{ImageIsReadBack, CutIsRefused, AlteredIsRefused, ErasedIsSound};
 ghost use Rattle.rdm_images.specs.Restarts.{ValuesOutlastRestarts};
+ghost use Rattle.rdm_images.specs.Saves.{InterruptedIsWhole, FinishedIsLoaded};
 
 use crate::{Image, ImageError, ImagesError, MemoryFault, Side};
 
@@ -24,6 +25,17 @@ pub fn altered_image_is_refused()
 /// An area that is erased holds no image, and images that are saved into it are kept over power failures.
 pub fn erased_area_is_sound()
     ensures { ErasedIsSound }
+{}
+
+/// Power may fail at any moment while the area of the next image is erased or written, or between the two: what is loaded is the old
+/// values or the new, whole. Each area is left such that this holds for the next save, too.
+pub fn interrupted_save_is_whole()
+    ensures { InterruptedIsWhole }
+{}
+
+/// When that area was erased and the next image is written in it, the new values are loaded.
+pub fn finished_save_is_loaded()
+    ensures { FinishedIsLoaded }
 {}
 
 /// After any saves into a disk that was erased once, each of them cut off at whatever byte or not, and restarts between them: what is
