@@ -6,8 +6,8 @@
 #include <string.h>
 
 static void names(void) {
-    printf("%s, %s, %s\n", felosumay_status_name(FELOSUMAY_DONE), felosumay_status_name(FELOSUMAY_SHORT_MEMORY),
-           felosumay_status_name(FELOSUMAY_SHORT_MEMORY + 1));
+    printf("%s, %s, %s\n", felosumay_status_name(FELOSUMAY_DONE), felosumay_status_name(FELOSUMAY_FLASH_FAILED),
+           felosumay_status_name(FELOSUMAY_FLASH_FAILED + 1));
     printf("%s, %s, %s\n", felosumay_parameter_name(FELOSUMAY_PID_DISC_UNIQUE_BRANCH),
            felosumay_parameter_name(FELOSUMAY_PID_SUB_DEVICE_STATUS_REPORT_THRESHOLD), felosumay_parameter_name(0x8001));
     printf("%s, %s, %s\n", felosumay_reason_name(FELOSUMAY_NR_UNKNOWN_PID), felosumay_reason_name(FELOSUMAY_NR_PROXY_BUFFER_FULL),
@@ -66,7 +66,8 @@ static felosumay_result nothing(void) {
     felosumay_search search = {0};
     felosumay_stepped stepped;
     felosumay_heard heard;
-    uint8_t frame[FELOSUMAY_FRAME_BYTES], value[FELOSUMAY_VALUE_BYTES];
+    felosumay_image image;
+    uint8_t frame[FELOSUMAY_FRAME_BYTES], value[FELOSUMAY_VALUE_BYTES], header[FELOSUMAY_IMAGE_HEADER_BYTES], area = 0;
     uint64_t count = 0;
     uint16_t reason = 0;
     felosumay_responder_free(NULL);
@@ -84,6 +85,8 @@ static felosumay_result nothing(void) {
         printf(", get %u", felosumay_responder_get(&fixture, 0, FELOSUMAY_PID_DEVICE_LABEL, NULL, 0, value, &count, &reason));
         printf(", save %u", felosumay_responder_save(&fixture, NULL, 0, &count));
         printf(", restore %u", felosumay_responder_restore(&fixture, NULL, 0));
+        printf(", image %u", felosumay_images_read(0, NULL, 0, &image));
+        printf(", next image %u", felosumay_images_next(0, &image, &image, NULL, 0, header, &area));
         printf(", ask %u", felosumay_collector_ask(&console, &identify, NULL, 0, frame, &count));
         printf(", hear %u", felosumay_collector_hear(&console, NULL, 0, &heard));
         printf(", search hears %u\n", felosumay_search_hear(&search, NULL, 0));

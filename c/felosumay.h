@@ -72,13 +72,15 @@ enum {
     FELOSUMAY_NOT_STORED = 18,   /* the device stores no value of the parameter */
     FELOSUMAY_BAD_LENGTH = 19,   /* the data don't have the length of the value */
     FELOSUMAY_SHORT_IMAGE = 20,  /* there is no room for the image */
-    FELOSUMAY_IMAGE_LENGTH = 21, /* the image has the wrong length for these values: it is truncated, or from other devices */
+    FELOSUMAY_IMAGE_LENGTH = 21, /* the image is truncated, or has the wrong length for these values: it is from other devices */
     FELOSUMAY_ALTERED_IMAGE = 22, /* the image is altered, or isn't an image */
-    FELOSUMAY_FOREIGN_IMAGE = 23, /* the image is of another profile */
+    FELOSUMAY_FOREIGN_IMAGE = 23, /* the image is of another profile, or of another key */
     FELOSUMAY_NO_REPLY = 24,      /* the bytes aren't a response */
     FELOSUMAY_IN_USE = 25,        /* another responder occupies the memory */
     FELOSUMAY_UNALIGNED = 26,     /* the memory doesn't begin at a multiple of 16 */
-    FELOSUMAY_SHORT_MEMORY = 27   /* there is too little memory for the responder */
+    FELOSUMAY_SHORT_MEMORY = 27,  /* there is too little memory for the responder */
+    FELOSUMAY_NO_IMAGE = 28,      /* neither area holds an image of the key */
+    FELOSUMAY_FLASH_FAILED = 29   /* a function of the program's areas returned false (felosumay_images.h) */
 };
 
 enum {
@@ -430,8 +432,9 @@ static inline felosumay_result felosumay_responder_place(felosumay_responder *re
  * `saved_size` says it, and FELOSUMAY_SAVED_BYTES is the same as a constant, of the profile's counts: how many sub-devices, sensors and
  * parameters of its own it has, how many of these are orders (FELOSUMAY_CC_SET), how many scenes PRESET_STATUS has, and how many
  * parameters it leaves out. No profile has more than FELOSUMAY_MOST_SAVED_BYTES.
- * The program keeps images where it likes, and one that is cut or altered is refused. DEVICE_POWER_CYCLES
- * counts one more than was saved (E1.20 section 10.8.6). No message waits, and jobs, messages and status entries stay.
+ * The program keeps images where it likes, such as in two areas of flash (felosumay_images.h), and one that is cut or altered is
+ * refused. DEVICE_POWER_CYCLES counts one more than was saved (E1.20 section 10.8.6). No message waits, and jobs, messages and status
+ * entries stay.
  * `saved_size`: ABSENT. `save`: ABSENT, SHORT_IMAGE; nothing is written then. `restore`: ABSENT, IMAGE_LENGTH, ALTERED_IMAGE,
  * FOREIGN_IMAGE, in this order; nothing changes then. */
 #define FELOSUMAY_SAVED_BYTES(sub_devices, sensors, parameters, orders, scenes, without)                                   \
@@ -469,6 +472,35 @@ felosumay_result felosumay_responder_outstanding(const felosumay_responder *resp
 
 /* Frees what the handle holds, if anything, and sets the handle to {0}. NULL is allowed and does nothing. */
 void felosumay_responder_free(felosumay_responder *responder);
+
+/* ---- two images of saved values in two areas of flash: if power fails at any moment, the old values are there or the new, whole */
+
+/* What an area holds. */
+typedef struct {
+    uint16_t counter; /* of two images the newer has the next one; 0 follows 65535 */
+    uint16_t length;  /* how many bytes its payload has: 0 to 65535 */
+    uint8_t there;    /* 1 if the area holds an image; 0 if it holds none, and then the other fields mean nothing */
+} felosumay_image;
+
+enum { FELOSUMAY_IMAGE_HEADER_BYTES = 12 }; /* how many bytes of an image stand in front of its payload */
+
+/* The library decides, and the program reads, erases and writes: felosumay_images.h does that with three functions of the program's. An
+ * image is a header and a payload, such as what `felosumay_responder_save` writes; docs/SAVED.md has its bytes, and says what is assumed
+ * of the areas. `key` is a number of the program's, which says what the payload is of: an image of another key counts as none.
+ *
+ * `read` says what an area holds, from the bytes at its front. Those behind the image don't count. IMAGE_LENGTH if there are fewer bytes
+ * than a header has, or than it says; ALTERED_IMAGE; FOREIGN_IMAGE, in this order: `image` says then that there is none.
+ *
+ * `newest` says which area holds the newest image, 0 or 1: pass what `read` said of area 0, and of area 1. NO_IMAGE if neither holds one;
+ * `area` stays then.
+ *
+ * `next` says where the image of this payload goes: erase `area`, and then write the header at its front, and the payload behind that. Pass
+ * what `read` said of both areas. TOO_LONG if the payload has more than 65535 bytes; `header` and `area` stay then. */
+static inline felosumay_result felosumay_images_read(uint32_t key, const uint8_t *bytes, uint64_t length, felosumay_image *image);
+felosumay_result felosumay_images_newest(const felosumay_image *first, const felosumay_image *second, uint8_t *area);
+static inline felosumay_result felosumay_images_next(uint32_t key, const felosumay_image *first, const felosumay_image *second,
+                                                     const uint8_t *payload, uint64_t length,
+                                                     uint8_t header[FELOSUMAY_IMAGE_HEADER_BYTES], uint8_t *area);
 
 /* ---- the receiver: it extracts packets and levels from what a UART receives */
 
@@ -742,6 +774,20 @@ static inline felosumay_result felosumay_responder_restore(felosumay_responder *
     return felosumay_responder_restore_nonnull(responder, felosumay_bytes(image, length), length);
 }
 
+felosumay_result felosumay_images_read_nonnull(uint32_t key, const uint8_t *bytes, uint64_t length, felosumay_image *image);
+static inline felosumay_result felosumay_images_read(uint32_t key, const uint8_t *bytes, uint64_t length, felosumay_image *image) {
+    return felosumay_images_read_nonnull(key, felosumay_bytes(bytes, length), length, image);
+}
+
+felosumay_result felosumay_images_next_nonnull(uint32_t key, const felosumay_image *first, const felosumay_image *second,
+                                               const uint8_t *payload, uint64_t length, uint8_t header[FELOSUMAY_IMAGE_HEADER_BYTES],
+                                               uint8_t *area);
+static inline felosumay_result felosumay_images_next(uint32_t key, const felosumay_image *first, const felosumay_image *second,
+                                                     const uint8_t *payload, uint64_t length,
+                                                     uint8_t header[FELOSUMAY_IMAGE_HEADER_BYTES], uint8_t *area) {
+    return felosumay_images_next_nonnull(key, first, second, felosumay_bytes(payload, length), length, header, area);
+}
+
 felosumay_result felosumay_responder_get_nonnull(const felosumay_responder *responder, uint16_t sub, uint16_t pid,
                                                  const uint8_t *argument, uint64_t length, uint8_t value[FELOSUMAY_VALUE_BYTES],
                                                  uint64_t *count, uint16_t *reason);
@@ -876,6 +922,8 @@ FELOSUMAY_ASSERT(sizeof(felosumay_stepped) == 32);
 FELOSUMAY_ASSERT(offsetof(felosumay_stepped, replied) == 8);
 FELOSUMAY_ASSERT(offsetof(felosumay_stepped, job) == 12);
 FELOSUMAY_ASSERT(sizeof(felosumay_outcome) == 10);
+FELOSUMAY_ASSERT(sizeof(felosumay_image) == 6);
+FELOSUMAY_ASSERT(offsetof(felosumay_image, there) == 4);
 FELOSUMAY_ASSERT(sizeof(felosumay_receiver) == 260);
 FELOSUMAY_ASSERT(offsetof(felosumay_receiver, state) == 2);
 FELOSUMAY_ASSERT(offsetof(felosumay_receiver, packet) == 3);

@@ -68,6 +68,20 @@ inline std::uint8_t frame_fault(bytes heard) noexcept { return felosumay_frame_f
 // Which rule a profile breaks, FELOSUMAY_FAULT_..: the first of them, or FELOSUMAY_NO_FAULT.
 inline std::uint8_t profile_fault(const felosumay_profile &profile) noexcept { return felosumay_profile_fault(&profile); }
 
+// What an area of flash holds; which of two areas has the newest image; and which one is erased for the next image, with the header to
+// write there in front of the payload. felosumay_images.h loads and saves with them.
+using image_header = std::array<std::uint8_t, FELOSUMAY_IMAGE_HEADER_BYTES>;
+inline result read_image(std::uint32_t key, bytes area, felosumay_image &image) noexcept {
+    return felosumay_images_read(key, area.data(), area.size(), &image);
+}
+inline result newest_image(const felosumay_image &first, const felosumay_image &second, std::uint8_t &area) noexcept {
+    return felosumay_images_newest(&first, &second, &area);
+}
+inline result next_image(std::uint32_t key, const felosumay_image &first, const felosumay_image &second, bytes payload,
+                         image_header &header, std::uint8_t &area) noexcept {
+    return felosumay_images_next(key, &first, &second, payload.data(), payload.size(), header.data(), &area);
+}
+
 // Lend a profile the parameters of the maker's own, the PIDs of those that the fixture hasn't, and the names of choices: of an array, a
 // std::vector or any other range with data and size, which has to stay as it is until the responder is made.
 template <class Parameters> void lend_parameters(felosumay_profile &profile, const Parameters &parameters) noexcept {

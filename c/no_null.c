@@ -63,6 +63,18 @@ felosumay_result felosumay_responder_restore_nonnull(felosumay_responder *respon
     return look(image, length);
 }
 
+felosumay_result felosumay_images_read_nonnull(uint32_t key, const uint8_t *bytes, uint64_t length, felosumay_image *image) {
+    (void)key, (void)image;
+    return look(bytes, length);
+}
+
+felosumay_result felosumay_images_next_nonnull(uint32_t key, const felosumay_image *first, const felosumay_image *second,
+                                               const uint8_t *payload, uint64_t length, uint8_t header[FELOSUMAY_IMAGE_HEADER_BYTES],
+                                               uint8_t *area) {
+    (void)key, (void)first, (void)second, (void)header, (void)area;
+    return look(payload, length);
+}
+
 felosumay_result felosumay_responder_get_nonnull(const felosumay_responder *responder, uint16_t sub, uint16_t pid,
                                                  const uint8_t *argument, uint64_t length, uint8_t value[FELOSUMAY_VALUE_BYTES],
                                                  uint64_t *count, uint16_t *reason) {
@@ -116,6 +128,8 @@ static void call_each(void) {
     felosumay_responder_change_label(NULL, read, count);
     felosumay_responder_place(NULL, 0, 0, read, count);
     felosumay_responder_restore(NULL, read, count);
+    felosumay_images_read(0, read, count, NULL);
+    felosumay_images_next(0, NULL, NULL, read, count, NULL, NULL);
     felosumay_responder_get(NULL, 0, 0, read, count, NULL, NULL, NULL);
     felosumay_frame_fault(read, count);
     felosumay_reply_read(read, count, NULL);
@@ -133,7 +147,7 @@ int main(void) {
     passed = parameters;
     passed_count = 2;
     call_each();
-    if (calls != 4 * 19)
-        printf("%d calls, not 4 times 19\n", calls);
-    return wrong != 0 || calls != 4 * 19;
+    if (calls != 4 * 21)
+        printf("%d calls, not 4 times 21\n", calls);
+    return wrong != 0 || calls != 4 * 21;
 }

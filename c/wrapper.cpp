@@ -11,6 +11,7 @@
 namespace {
 
 constexpr felosumay::uid FIXTURE{0x7FF0, 1}, CONSOLE{0x7FF0, 2};
+constexpr std::uint32_t KEY = 0x48656164; // "Head"
 
 // Finds the fixtures of a line with one fixture, and says how many there are.
 std::uint64_t discover(felosumay::responder &fixture) {
@@ -87,6 +88,22 @@ int add_parameter() {
     return 0;
 }
 
+// The first image of two bytes, which the first area holds then.
+int keep_image() {
+    const std::uint8_t payload[] = {1, 2};
+    felosumay_image first{}, second{};
+    felosumay::image_header header;
+    std::uint8_t area = 7;
+    if (felosumay::next_image(KEY, first, second, payload, header, area) != FELOSUMAY_DONE)
+        return 1;
+    std::vector<std::uint8_t> held(header.begin(), header.end());
+    held.insert(held.end(), std::begin(payload), std::end(payload));
+    if (felosumay::read_image(KEY, held, first) != FELOSUMAY_DONE || felosumay::newest_image(first, second, area) != FELOSUMAY_DONE)
+        return 1;
+    std::printf("image: area %u, check %02X%02X%02X%02X, %u bytes\n", area, held[0], held[1], held[2], held[3], first.length);
+    return 0;
+}
+
 } // namespace
 
 int main() {
@@ -125,5 +142,5 @@ int main() {
     std::printf("lamp %u\n", value.room[0]);
     const felosumay::result refused = fixture.get_value(0, FELOSUMAY_PID_SENSOR_DEFINITION, far, value, reason);
     std::printf("no such sensor: %s, %s\n", felosumay::status_name(refused).data(), felosumay::reason_name(reason).data());
-    return add_parameter();
+    return keep_image() != 0 ? 1 : add_parameter();
 }

@@ -11,6 +11,7 @@ pub mod Profiles
 pub mod Endpoints
 pub mod Events
 pub mod Memory
+pub mod Images
 pub mod Messages
 pub mod SearchStates
 pub mod Searches

@@ -32,7 +32,9 @@ results =
     (24, codes "NO_REPLY") ∷
     (25, codes "IN_USE") ∷
     (26, codes "UNALIGNED") ∷
-    (27, codes "SHORT_MEMORY") ∷ []
+    (27, codes "SHORT_MEMORY") ∷
+    (28, codes "NO_IMAGE") ∷
+    (29, codes "FLASH_FAILED") ∷ []
 
 -- a name, or that there is none
 abbrev pub named : Option (List ℕ) → List ℕ

@@ -7,7 +7,7 @@ use Rattle.rdm_commands.specs.declared.placing.PlaceError.TheVariants as place
 use Rattle.rdm_saved.specs.declared.errors.RestoreError.{RestoreError}
 use Rattle.rdm_saved.specs.declared.errors.RestoreError.TheVariants as restore
 use Rattle.rdm_c.specs.declared.status.Status.{Status}
-use Rattle.rdm_c.specs.declared.status.Status.TheVariants.{Done, OutOfMemory, BadProfile, BadSize, BadUid, Absent, Astray, Unknown, Refused, NoValue, Reserved, Busy, TooLong, NoMore, NoRoom, OutOfRange, Limit, NoDevice, NotStored, BadLength, ShortImage, ImageLength, AlteredImage, ForeignImage, NoReply, InUse, Unaligned, ShortMemory}
+use Rattle.rdm_c.specs.declared.status.Status.TheVariants.{Done, OutOfMemory, BadProfile, BadSize, BadUid, Absent, Astray, Unknown, Refused, NoValue, Reserved, Busy, TooLong, NoMore, NoRoom, OutOfRange, Limit, NoDevice, NotStored, BadLength, ShortImage, ImageLength, AlteredImage, ForeignImage, NoReply, InUse, Unaligned, ShortMemory, NoImage, FlashFailed}
 
 abbrev pub code_of : Status → ℕ
 code_of Done = 0
@@ -38,6 +38,8 @@ code_of NoReply = 24
 code_of InUse = 25
 code_of Unaligned = 26
 code_of ShortMemory = 27
+code_of NoImage = 28
+code_of FlashFailed = 29
 
 -- what a collector's refusal of a command is called, and what it is called that there is none
 abbrev pub of_refusal : Option AskError → Status

@@ -4,6 +4,7 @@ pub(crate) mod change;
 pub(crate) mod collector;
 pub(crate) mod firmware;
 pub(crate) mod frame;
+pub(crate) mod images;
 pub(crate) mod memory;
 pub(crate) mod names;
 pub(crate) mod profile;

@@ -15,6 +15,7 @@ mod exports;
 mod found;
 mod front;
 mod handle;
+mod image;
 mod job;
 mod keeping;
 mod lent;
@@ -40,6 +41,9 @@ pub use exports::collector::{
 };
 pub use exports::firmware::{felosumay_responder_note, felosumay_responder_place_nonnull};
 pub use exports::frame::felosumay_frame_fault_nonnull;
+pub use exports::images::{
+    felosumay_images_newest, felosumay_images_next_nonnull, felosumay_images_read_nonnull,
+};
 pub use exports::memory::{felosumay_responder_fits, felosumay_responder_size};
 pub use exports::names::{
     felosumay_tell_parameter, felosumay_tell_reason, felosumay_tell_status, felosumay_tell_version,
@@ -67,6 +71,7 @@ pub use exports::search::{
 };
 pub use found::FoundNumbers;
 pub use handle::Handle;
+pub use image::ImageNumbers;
 pub use job::{JobNumbers, SteppedNumbers};
 pub use message::{CommandNumbers, HeardNumbers, MessageNumbers};
 pub use names::NameNumbers;

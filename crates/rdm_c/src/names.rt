@@ -57,6 +57,8 @@ macro_rules! result_rows {
             (25 "IN_USE")
             (26 "UNALIGNED")
             (27 "SHORT_MEMORY")
+            (28 "NO_IMAGE")
+            (29 "FLASH_FAILED")
         }
     };
 }

@@ -2,6 +2,7 @@
 
 use crate::found::FoundNumbers;
 use crate::handle::Handle;
+use crate::image::ImageNumbers;
 use crate::job::{JobNumbers, SteppedNumbers};
 use crate::message::{CommandNumbers, HeardNumbers, MessageNumbers};
 use crate::names::NameNumbers;
@@ -65,3 +66,5 @@ const _: () = prove!(size_of::<NameNumbers>() == 16);
 const _: () = prove!(size_of::<ReplyNumbers>() == 256);
 
 const _: () = prove!(size_of::<Receiver>() == 260);
+
+const _: () = prove!(size_of::<ImageNumbers>() == 6);

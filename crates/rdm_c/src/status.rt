@@ -62,6 +62,10 @@ pub enum Status {
     Unaligned,
     /// There is too little memory for the responder.
     ShortMemory,
+    /// Neither area holds an image of the key.
+    NoImage,
+    /// A function of the firmware's areas says that it failed. `felosumay_images.h` says so.
+    FlashFailed,
 }
 
 impl Status {
@@ -98,6 +102,8 @@ impl Status {
             Status::InUse => 25,
             Status::Unaligned => 26,
             Status::ShortMemory => 27,
+            Status::NoImage => 28,
+            Status::FlashFailed => 29,
         }
     }
 }
