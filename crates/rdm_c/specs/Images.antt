@@ -1,5 +1,5 @@
 -- What C is told of the images in the two areas of its memory.
-use Rattle.std.specs.Prelude.{◌≡◌, ◌×◌, ℕ, ◌==◌, List, ◌++◌, Option, Some, None, if◌then◌else◌}
+use Rattle.std.specs.Prelude.{◌≡◌, ℕ, ◌==◌, List, ◌++◌, Option, Some, None, if◌then◌else◌}
 use Rattle.rdm_images.specs.declared.decoding.ImageError.{ImageError}
 use Rattle.rdm_images.specs.declared.decoding.ImageError.TheVariants.{Cut, Altered, OfAnother}
 use Rattle.rdm_images.specs.declared.image.Image.{Image}

@@ -1,12 +1,12 @@
 //! Two images of saved values in two areas of the firmware's memory, as C asks of them. C reads, erases and writes the areas itself: these
 //! calls tell it which image is the newest, which area is erased next, and which bytes are written there.
 
-ghost use Rattle.std.specs.Prelude.{◌≡◌, ◌≢◌, ◌↔◌, ◌++◌, nat_le, length, if◌then◌else◌, List, ℕ, MatchOption};
+ghost use Rattle.std.specs.Prelude.{◌≡◌, ◌≢◌, ◌↔◌, ◌++◌, nat_le, length, if◌then◌else◌, is_some, true, List, ℕ, MatchOption};
 ghost use Rattle.rdm_images.specs.declared.decoding.ImageError.{ImageError as TheError};
 ghost use Rattle.rdm_images.specs.declared.memory.Side.{Side as TheSide};
 ghost use Rattle.rdm_images.specs.Areas.{newest, next_side, next_counter, said_by};
 ghost use Rattle.rdm_images.specs.ImageText.{image_text};
-ghost use Rattle.rdm_images.specs.Reading.{held, said, IsFirstFault, PassesAll};
+ghost use Rattle.rdm_images.specs.Reading.{held, said, IsFirstFault};
 ghost use Rattle.rdm_c.specs.Images.{image_in, number_of, of_image_error, AreRead, IsNext};
 ghost use Rattle.rdm_c.specs.Statuses.{code_of};
 
@@ -27,7 +27,7 @@ pub extern "C" fn felosumay_images_read_nonnull(
     image: &mut ImageNumbers,
 ) -> u8
     ensures held { image_in image.new ≡ said (held key bytes.now) }
-    ensures done { (result ≡ code_of Status.Done) ↔ PassesAll key bytes.now }
+    ensures done { (result ≡ code_of Status.Done) ↔ (is_some (image_in image.new) ≡ true) }
     ensures fault { (e : TheError) → (result ≡ code_of (of_image_error e)) ↔ IsFirstFault e key bytes.now }
 {
     let read = decode_image(key, bytes);
