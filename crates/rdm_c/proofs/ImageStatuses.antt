@@ -1,5 +1,5 @@
 -- The status of a read is DONE exactly where there is an image.
-use Rattle.std.proofs.Common.{◌≡◌, ◌↔◌, ℕ, Option, Some, None, Bool, true, false, is_some, refl, sym, ap, ◌∙◌, arith}
+use Rattle.std.proofs.Common.{◌≡◌, ◌↔◌, ℕ, Option, Some, None, true, false, is_some, sym, ap, ◌∙◌, arith}
 use Rattle.rdm_images.specs.declared.decoding.ImageError.{ImageError}
 use Rattle.rdm_images.specs.declared.decoding.ImageError.TheVariants.{Cut, Altered, OfAnother}
 use Rattle.rdm_images.specs.declared.image.Image.{Image}
