@@ -1,6 +1,8 @@
-//! The tests of rdm_words, rdm_entry and rdm_chart, in a crate of their own: a crate with tests is proved twice.
+//! The tests of rdm_words, rdm_entry, rdm_capture and rdm_chart, in a crate of their own: a crate with tests is proved twice.
 #![tactic(auto)]
 
+#[cfg(test)]
+mod capture;
 #[cfg(test)]
 mod chart;
 #[cfg(test)]

@@ -1,0 +1,6 @@
+pub mod Once
+pub mod Blocks
+pub mod Written
+pub mod Times
+pub mod Finding
+pub mod Going
