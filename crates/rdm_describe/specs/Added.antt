@@ -51,12 +51,12 @@ abbrev pub added_of : List Answer → List ParameterDef
 added_of answers = flat_map (added_at answers) added_pids
 
 -- and behind them those of the maker's own
-abbrev pub parameters_of : List Answer → List ParameterDef
+unfoldable pub parameters_of : List Answer → List ParameterDef
 parameters_of answers = added_of answers ++ own_of answers
 
 -- what the things of a choice are called that is in the file
 abbrev pub names_of : List Answer → ℕ → List ChoiceName
 names_of answers pid = each (λ number. name_of answers (pid + 1) number ∷ []) 1 (if stands answers pid then choice_count answers pid else 0)
 
-abbrev pub choices_of : List Answer → List ChoiceName
+unfoldable pub choices_of : List Answer → List ChoiceName
 choices_of answers = names_of answers 0x0343 ++ (names_of answers 0x0345 ++ (names_of answers 0x0347 ++ names_of answers 0x0641))

@@ -186,7 +186,7 @@ resets_of pid = is_both (rights_of pid) && not (is_kept pid)
 abbrev pub called : ℕ → List ℕ
 called pid = text_of (unwrap_or (parameter_name pid) [])
 
-abbrev pub draft_of : List Answer → ℕ → ParameterDef
+unfoldable pub draft_of : List Answer → ℕ → ParameterDef
 draft_of answers pid = record {
   pid = pid;
   rights = rights_of pid;

@@ -53,7 +53,7 @@ if_cut pid told kept = if nat_lt kept told then Cut pid told kept ∷ [] else []
 abbrev pub if_choice_cut : List Answer → ℕ → List Note
 if_choice_cut answers pid = if_cut pid (things_told answers pid) (choice_count answers pid)
 
-abbrev pub cut_things : List Answer → List Note
+unfoldable pub cut_things : List Answer → List Note
 cut_things answers =
     if_choice_cut answers 0x0343
     ++ (if_choice_cut answers 0x0345
@@ -61,16 +61,23 @@ cut_things answers =
     ++ (if_choice_cut answers 0x0641
     ++ if_cut 0x1042 (scenes_told answers) (scene_count answers))))
 
-abbrev pub cut_lists : List Answer → List Note
-cut_lists answers =
+-- personalities, slots, sensors and self tests
+unfoldable pub cut_parts : List Answer → List Note
+cut_parts answers =
     if_cut 0x00E0 (slice_index (info answers 0) 13) 8
     ++ (if_cut 0x0120 (length (slot_info answers) / 5) (slot_count answers)
     ++ (if_cut 0x0200 (slice_index (info answers 0) 18) 8
-    ++ (if_cut 0x1020 (length (tests_of answers)) 8
-    ++ (if_cut 0x0031 (length (statuses_of answers)) 8
+    ++ if_cut 0x1020 (length (tests_of answers)) 8))
+
+-- status texts, languages and parameters
+unfoldable pub cut_texts : List Answer → List Note
+cut_texts answers =
+    if_cut 0x0031 (length (statuses_of answers)) 8
     ++ (if_cut 0x00A0 (length (coded_languages (data_of answers 0 0x00A0 0))) 8
-    ++ (if_cut 0x0051 (length (parameters_of answers)) 32
-    ++ cut_things answers))))))
+    ++ if_cut 0x0051 (length (parameters_of answers)) 32)
+
+unfoldable pub cut_lists : List Answer → List Note
+cut_lists answers = cut_parts answers ++ (cut_texts answers ++ cut_things answers)
 
 -- ---- parameters
 
@@ -121,14 +128,22 @@ if_other_personality answers = if nat_le 2 (slice_index (info answers 0) 12) the
 
 -- ---- all
 
-abbrev pub notes_of : List Answer → List Note
-notes_of answers =
+-- on what was told, and a file has otherwise or not at all
+unfoldable pub notes_on_answers : List Answer → List Note
+notes_on_answers answers =
     flat_map (if_unread answers) (all_questions answers)
     ++ (flat_map if_altered answers
     ++ (cut_lists answers
     ++ (each (unsayable_at answers (parameters_of answers)) 0 (word_count (supported answers 0))
-    ++ (other_scenes answers
-    ++ (flat_map (if_kept answers) optional_pids
+    ++ other_scenes answers)))
+
+-- on what a file has, and the fixture hasn't
+unfoldable pub notes_on_file : List Answer → List Note
+notes_on_file answers =
+    flat_map (if_kept answers) optional_pids
     ++ (if_no_queue answers
     ++ (each (if_differs answers) 2 (sub_count answers - 1)
-    ++ if_other_personality answers)))))))
+    ++ if_other_personality answers))
+
+abbrev pub notes_of : List Answer → List Note
+notes_of answers = notes_on_answers answers ++ notes_on_file answers

@@ -73,7 +73,7 @@ pub(crate) fn stands(answers: &[Answer], pid: u16) -> bool
 }
 
 /// All parameters that the file adds to the table: these, and those of the maker's own.
-#[tactic(auto, using(std::proofs::Common::append_assoc))]
+#[tactic(auto, unfolding(crate::specs::Added::parameters_of), using(std::proofs::Common::append_assoc))]
 pub(crate) fn parameters_of(
     alloc: Global,
     answers: &[Answer],
@@ -102,7 +102,7 @@ fn put_added(
 }
 
 /// What the things are called of the choices that are in the file.
-#[tactic(auto, using(std::proofs::Common::append_assoc))]
+#[tactic(auto, unfolding(crate::specs::Added::choices_of), using(std::proofs::Common::append_assoc))]
 pub(crate) fn choices_of(alloc: Global, answers: &[Answer]) -> Result<Vec<ChoiceName>, AllocError>
     ensures { IfOk result (λ list. list.items ≡ spec.choices_of answers.now) }
 {

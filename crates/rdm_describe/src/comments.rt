@@ -245,7 +245,7 @@ fn put_scene_words(answers: &[Answer], number: u16, words: &mut Vec<u8>) -> Resu
 {
     put_name(PRESET_STATUS, words)?;
     words.extend_from_slice(b": scene ")?;
-    put_number(usize::from(number), words)?;
+    put_number(number as usize, words)?;
     words.extend_from_slice(b" starts without what it told: ")?;
     put_told(scene(answers, number), words)
 }

@@ -325,6 +325,7 @@ fn called(pid: u16) -> Text
 }
 
 /// The parameter, as the fixture told of it.
+#[tactic(auto, unfolding(crate::specs::Drafts::draft_of))]
 pub(crate) fn draft_of(answers: &[Answer], pid: u16) -> ParameterDef
     ensures { result ≡ spec.draft_of answers.now pid }
 {

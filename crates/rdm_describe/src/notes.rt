@@ -56,19 +56,39 @@ pub enum Note {
 pub(crate) fn notes_of(alloc: Global, answers: &[Answer]) -> Result<Vec<Note>, AllocError>
     ensures { IfOk result (λ list. list.items ≡ spec.notes_of answers.now) }
 {
+    let mut list = Vec::new(alloc);
+    put_notes_on_answers(alloc, answers, &mut list)?;
+    put_notes_on_file(answers, &mut list)?;
+    Ok(list)
+}
+
+/// On what was told, and a file has otherwise or not at all.
+#[tactic(auto, unfolding(crate::specs::Notes::notes_on_answers), using(std::proofs::Common::append_assoc))]
+fn put_notes_on_answers(
+    alloc: Global,
+    answers: &[Answer],
+    list: &mut Vec<Note>,
+) -> Result<(), AllocError>
+    ensures { OnOk result (list.new.items ≡ list.old.items ++ spec.notes_on_answers answers.now) }
+{
     let questions = all_questions(alloc, answers)?;
     let parameters = parameters_of(alloc, answers)?;
-    let mut list = Vec::new(alloc);
-    put_unread(answers, questions.as_slice(), &mut list)?;
-    put_altered(answers, &mut list)?;
-    put_cut_lists(alloc, answers, parameters.len(), &mut list)?;
-    put_unsayable(answers, parameters.as_slice(), &mut list)?;
-    put_other_scenes(answers, &mut list)?;
-    put_kept(answers, &OPTIONAL, &mut list)?;
-    put_no_queue(answers, &mut list)?;
-    put_different(answers, sub_count(answers), &mut list)?;
-    put_personality(answers, &mut list)?;
-    Ok(list)
+    put_unread(answers, questions.as_slice(), list)?;
+    put_altered(answers, list)?;
+    put_cut_lists(alloc, answers, parameters.len(), list)?;
+    put_unsayable(answers, parameters.as_slice(), list)?;
+    put_other_scenes(answers, list)
+}
+
+/// On what a file has, and the fixture hasn't.
+#[tactic(auto, unfolding(crate::specs::Notes::notes_on_file), using(std::proofs::Common::append_assoc))]
+fn put_notes_on_file(answers: &[Answer], list: &mut Vec<Note>) -> Result<(), AllocError>
+    ensures { OnOk result (list.new.items ≡ list.old.items ++ spec.notes_on_file answers.now) }
+{
+    put_kept(answers, &OPTIONAL, list)?;
+    put_no_queue(answers, list)?;
+    put_different(answers, sub_count(answers), list)?;
+    put_personality(answers, list)
 }
 
 // ---- what the fixture didn't answer
@@ -136,7 +156,7 @@ fn put_cut(list: &mut Vec<Note>, pid: u16, told: usize, kept: usize) -> Result<(
     Ok(())
 }
 
-#[tactic(auto, using(std::proofs::Common::append_assoc))]
+#[tactic(auto, unfolding(crate::specs::Notes::cut_lists), using(std::proofs::Common::append_assoc))]
 fn put_cut_lists(
     alloc: Global,
     answers: &[Answer],
@@ -146,23 +166,45 @@ fn put_cut_lists(
     requires { parameters ≡ length (all_parameters answers.now) }
     ensures { OnOk result (list.new.items ≡ list.old.items ++ spec.cut_lists answers.now) }
 {
-    let info = info(answers, 0);
-    let slots = data_of(answers, 0, SLOT_INFO, 0).len() / 5;
-    let tests = tests_of(alloc, answers)?;
-    let statuses = statuses_of(alloc, answers)?;
-    let languages = coded_languages(alloc, data_of(answers, 0, 0x00A0, 0))?;
-    put_cut(list, 0x00E0, slot_at(info, 13) as usize, 8)?;
-    put_cut(list, SLOT_INFO, slots, slot_count(answers) as usize)?;
-    put_cut(list, 0x0200, slot_at(info, 18) as usize, 8)?;
-    put_cut(list, 0x1020, tests.len(), 8)?;
-    put_cut(list, 0x0031, statuses.len(), 8)?;
-    put_cut(list, 0x00A0, languages.len(), 8)?;
-    put_cut(list, 0x0051, parameters, 32)?;
+    put_cut_parts(alloc, answers, list)?;
+    put_cut_texts(alloc, answers, parameters, list)?;
     put_cut_things(answers, list)
 }
 
+/// Personalities, slots, sensors and self tests.
+#[tactic(auto, unfolding(crate::specs::Notes::cut_parts), using(std::proofs::Common::append_assoc))]
+fn put_cut_parts(alloc: Global, answers: &[Answer], list: &mut Vec<Note>) -> Result<(), AllocError>
+    ensures { OnOk result (list.new.items ≡ list.old.items ++ spec.cut_parts answers.now) }
+{
+    let info = info(answers, 0);
+    let slots = data_of(answers, 0, SLOT_INFO, 0).len() / 5;
+    let tests = tests_of(alloc, answers)?;
+    put_cut(list, 0x00E0, slot_at(info, 13) as usize, 8)?;
+    put_cut(list, SLOT_INFO, slots, slot_count(answers) as usize)?;
+    put_cut(list, 0x0200, slot_at(info, 18) as usize, 8)?;
+    put_cut(list, 0x1020, tests.len(), 8)
+}
+
+/// Status texts, languages and parameters.
+#[tactic(auto, unfolding(crate::specs::Notes::cut_texts), using(std::proofs::Common::append_assoc))]
+fn put_cut_texts(
+    alloc: Global,
+    answers: &[Answer],
+    parameters: usize,
+    list: &mut Vec<Note>,
+) -> Result<(), AllocError>
+    requires { parameters ≡ length (all_parameters answers.now) }
+    ensures { OnOk result (list.new.items ≡ list.old.items ++ spec.cut_texts answers.now) }
+{
+    let statuses = statuses_of(alloc, answers)?;
+    let languages = coded_languages(alloc, data_of(answers, 0, 0x00A0, 0))?;
+    put_cut(list, 0x0031, statuses.len(), 8)?;
+    put_cut(list, 0x00A0, languages.len(), 8)?;
+    put_cut(list, 0x0051, parameters, 32)
+}
+
 /// The things of choices, and scenes.
-#[tactic(auto, using(std::proofs::Common::append_assoc))]
+#[tactic(auto, unfolding(crate::specs::Notes::cut_things), using(std::proofs::Common::append_assoc))]
 fn put_cut_things(answers: &[Answer], list: &mut Vec<Note>) -> Result<(), AllocError>
     ensures { OnOk result (list.new.items ≡ list.old.items ++ spec.cut_things answers.now) }
 {
