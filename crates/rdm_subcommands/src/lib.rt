@@ -2,6 +2,7 @@
 //! lists parameters, and is a virtual fixture on a line, or a rig of them.
 #![tactic(auto)]
 
+mod capture;
 pub mod chart;
 pub mod fixture;
 pub mod parameters;

@@ -1,11 +1,13 @@
-//! `felosumay words`: what a trace or frames say, in words.
+//! `felosumay words`: what a trace, a capture or frames say, in words.
 
+use crate::capture::trace_of;
 use clap::ArgMatches;
+use rdm_capture::is_capture;
 use rdm_host::fault::Fault;
 use rdm_host::fixture::FixtureFile;
 use rdm_host::host::Host;
 use rdm_host::source::{Source, print, refuse_clashes, without_mark};
-use rdm_words::{Before, Known, put_text_line};
+use rdm_words::{Before, Known, put_text_line, words};
 use std::fs;
 use std::io::{BufRead, BufReader, Read};
 
@@ -29,7 +31,7 @@ pub fn run<'a, H: Host>(rt: H, asked: &ArgMatches<'a>) -> Result<(), Fault<'a>> 
 fn print_words<'a, H: Host>(rt: H, source: Source<'a>, known: &Known<'_>) -> Result<(), Fault<'a>> {
     let name = source.name();
     let path = match source {
-        Source::Input => return print_lines(rt, name, &mut rt.reader(), known),
+        Source::Input => return print_all(rt, name, &mut rt.reader(), known),
         Source::File(path) => path,
     };
     let file = match fs::open(&rt, path) {
@@ -37,7 +39,46 @@ fn print_words<'a, H: Host>(rt: H, source: Source<'a>, known: &Known<'_>) -> Res
         Err(error) => return Err(Fault::Io(name, error)),
     };
     match BufReader::new(rt.alloc(), file) {
-        Ok(mut reader) => print_lines(rt, name, &mut reader, known),
+        Ok(mut reader) => print_all(rt, name, &mut reader, known),
+        Err(error) => Err(Fault::Io(name, error)),
+    }
+}
+
+/// Prints the words of a trace line by line, or those of a capture, which is read whole.
+fn print_all<'a, H: Host, R: BufRead>(
+    rt: H,
+    name: &'a str,
+    reader: &mut R,
+    known: &Known<'_>,
+) -> Result<(), Fault<'a>> {
+    if !begins_as_capture(name, reader)? {
+        return print_lines(rt, name, reader, known);
+    }
+    let mut capture = Vec::new(rt.alloc());
+    read_rest(name, reader, &mut capture)?;
+    let trace = trace_of(rt.alloc(), capture.as_slice())?;
+    print(rt, words(rt.alloc(), trace.as_slice(), known)?.as_slice())
+}
+
+/// Whether a capture comes. Nothing is taken.
+fn begins_as_capture<'a, R: BufRead>(name: &'a str, reader: &mut R) -> Result<bool, Fault<'a>> {
+    match reader.fill_buf() {
+        Ok(front) => Ok(is_capture(front)),
+        Err(error) => Err(Fault::Io(name, error)),
+    }
+}
+
+/// Reads all that comes into a list that is empty. More than 64 MiB are rejected.
+fn read_rest<'a, R: BufRead>(
+    name: &'a str,
+    reader: &mut R,
+    bytes: &mut Vec<u8>,
+) -> Result<(), Fault<'a>> {
+    // One byte more is read, which shows that there are too many.
+    let mut limited = reader.by_ref().take(MOST_BYTES + 1);
+    match limited.read_to_end(bytes) {
+        Ok(count) if count as u64 > MOST_BYTES => Err(Fault::TooLong(name, MOST_BYTES)),
+        Ok(_) => Ok(()),
         Err(error) => Err(Fault::Io(name, error)),
     }
 }
