@@ -86,7 +86,7 @@ fn blocks_of_pcapng(rt: HostRuntime) {
     let sent = (Some(5_000_000), Direction::Outbound);
     let simple = (None, Direction::Unknown);
     has(&rt, rt.alloc(), file.as_slice(), &[sent, simple], None);
-    let cut = &file[..file.len() - 1];
+    let (_, cut) = file.as_slice().split_last().expect(&rt, "bytes");
     has(&rt, rt.alloc(), cut, &[sent], Some(140));
 }
 
