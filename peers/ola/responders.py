@@ -125,12 +125,16 @@ class Console:
             self.wrong += 1
             print(f"ola: {what} is {is_so!r}, and must be {must!r}", file=sys.stderr)
 
-    def supported(self, uid, sub):
-        """The parameters that a device lists. They are read from the trace, which keeps the bytes."""
-        self.run("get", uid, "SUPPORTED_PARAMETERS", "--sub", sub)
+    def data(self, *words):
+        """The parameter data of the reply to a GET. They are read from the trace, which keeps the bytes."""
+        self.run("get", *words)
         replies = [line.split()[1] for line in self.trace.read_text().splitlines() if line.startswith("reply ")]
         frame = bytes.fromhex(replies[-1])
-        body = frame[24:24 + frame[23]]
+        return frame[24:24 + frame[23]]
+
+    def supported(self, uid, sub):
+        """The parameters that a device lists."""
+        body = self.data(uid, "SUPPORTED_PARAMETERS", "--sub", sub)
         return [body[at:at + 2].hex().upper() for at in range(0, len(body), 2)]
 
 
@@ -217,7 +221,8 @@ def identity(console, uid):
     told += fields[:FIELDS_OF_KIND]
     if PERSONALITY_DESCRIPTION in console.supported(uid, "root"):
         told += [plain(console, uid, "DMX_PERSONALITY_DESCRIPTION", str(number + 1)) for number in range(int(fields[PERSONALITIES]))]
-    told += [plain(console, uid, "SENSOR_DEFINITION", str(number)) for number in range(int(fields[-1]))]
+    # OLA pads the names of sensors with NULs.
+    told += [console.data(uid, "SENSOR_DEFINITION", str(number)).rstrip(b"\0") for number in range(int(fields[-1]))]
     return told
 
 
