@@ -14,9 +14,6 @@ use std::io::{BufRead, BufReader, Read};
 /// How many bytes a trace may have that is read whole, and a line of one that isn't: 64 MiB.
 pub const MOST_BYTES: u64 = 67108864;
 
-/// How many bytes tell a capture from a text.
-const FRONT_BYTES: u64 = 24;
-
 /// Reads the trace that is named, and prints its words. Without a fixture's file, nothing is known of any fixture.
 pub fn run<'a, H: Host>(rt: H, asked: &ArgMatches<'a>) -> Result<(), Fault<'a>> {
     refuse_clashes(asked)?;
@@ -54,28 +51,33 @@ fn print_all<'a, H: Host, R: BufRead>(
     reader: &mut R,
     known: &Known<'_>,
 ) -> Result<(), Fault<'a>> {
-    let mut front = Vec::new(rt.alloc());
-    read_to(name, reader, FRONT_BYTES, &mut front)?;
-    if !is_capture(front.as_slice()) {
-        return print_lines(rt, name, &mut front.as_slice().chain(reader), known);
+    if !begins_as_capture(name, reader)? {
+        return print_lines(rt, name, reader, known);
     }
-    // One byte more is read, which shows that there are too many.
-    read_to(name, reader, MOST_BYTES + 1, &mut front)?;
-    if front.len() as u64 > MOST_BYTES {
-        return Err(Fault::TooLong(name, MOST_BYTES));
-    }
-    let trace = trace_of(rt.alloc(), front.as_slice())?;
+    let mut capture = Vec::new(rt.alloc());
+    read_rest(name, reader, &mut capture)?;
+    let trace = trace_of(rt.alloc(), capture.as_slice())?;
     print(rt, words(rt.alloc(), trace.as_slice(), known)?.as_slice())
 }
 
-/// Reads at most so many bytes, behind those of a list.
-fn read_to<'a, R: BufRead>(
+/// Whether a capture comes. Nothing is taken.
+fn begins_as_capture<'a, R: BufRead>(name: &'a str, reader: &mut R) -> Result<bool, Fault<'a>> {
+    match reader.fill_buf() {
+        Ok(front) => Ok(is_capture(front)),
+        Err(error) => Err(Fault::Io(name, error)),
+    }
+}
+
+/// Reads all that comes into a list that is empty. More than 64 MiB are rejected.
+fn read_rest<'a, R: BufRead>(
     name: &'a str,
     reader: &mut R,
-    most: u64,
     bytes: &mut Vec<u8>,
 ) -> Result<(), Fault<'a>> {
-    match reader.by_ref().take(most).read_to_end(bytes) {
+    // One byte more is read, which shows that there are too many.
+    let mut limited = reader.by_ref().take(MOST_BYTES + 1);
+    match limited.read_to_end(bytes) {
+        Ok(count) if count as u64 > MOST_BYTES => Err(Fault::TooLong(name, MOST_BYTES)),
         Ok(_) => Ok(()),
         Err(error) => Err(Fault::Io(name, error)),
     }
