@@ -18,6 +18,7 @@
 #include <ola/rdm/AckTimerResponder.h>
 #include <ola/rdm/AdvancedDimmerResponder.h>
 #include <ola/rdm/DimmerResponder.h>
+#include <ola/rdm/DummyResponder.h>
 #include <ola/rdm/MovingLightResponder.h>
 #include <ola/rdm/NetworkResponder.h>
 #include <ola/rdm/RDMCommand.h>
@@ -121,6 +122,7 @@ class Line {
     Join(new ola::rdm::AckTimerResponder(Next()));
     Join(new ola::rdm::AdvancedDimmerResponder(Next()));
     Join(new ola::rdm::NetworkResponder(Next()));
+    Join(new ola::rdm::DummyResponder(Next()));
   }
 
   // The bytes on the line after those of a request.

@@ -36,7 +36,7 @@ SECONDS_TO_WATCH = 4
 MOST_SECONDS = 300
 # Of the fields of DEVICE_INFO the first say what kind of device it is, up to the software version ID; and which field counts personalities.
 FIELDS_OF_KIND = 4
-PERSONALITIES = 6
+PERSONALITIES = 7
 PERSONALITY_DESCRIPTION = "00E1"
 
 
