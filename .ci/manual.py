@@ -15,7 +15,7 @@ the chart of \\fB\\-\\-chart\\fR and \\fB\\-\\-output\\fR
 is written anew.
 .TP
 the trace of \\fBline \\-\\-trace\\fR
-is written anew, line by line as it comes.
+is written anew, line by line as it comes. With \\fB\\-\\-trace\\-as pcapng\\fR it is a capture, which Wireshark opens.
 .TP
 the values of \\fBwidget \\-\\-saved\\fR
 are those of a fixture. The file is read when the fixture starts, and written when a value changes.
@@ -44,6 +44,7 @@ EXAMPLES = [
     ("Play a script on the demonstration fixture, and print what happens in words:", "felosumay play \\-\\-words lamp.script"),
     ("Check a fixture file, and print what a controller will find:", "felosumay fixture par_can.toml"),
     ("Draw a trace:", "felosumay chart lamp.trace \\-o lamp.svg"),
+    ("Write the frames of a trace as a capture for Wireshark:", "felosumay words \\-\\-format pcapng lamp.trace > lamp.pcapng"),
     ("List all devices of a line by their start addresses, on the interface at /dev/ttyUSB0:",
      "felosumay\\-line /dev/ttyUSB0 list \\-\\-by address"),
     ("Keep a list, from which the shell then completes UIDs, and set an address:",

@@ -11,6 +11,13 @@ refuse() {
     exit 2
 }
 
+# Ends the script with status 0, for a reason for which nothing was measured: it says so, also to the file that SKIPPED names.
+skip() {
+    echo "bench/$(basename "$0"): left out: $1"
+    [[ -z ${SKIPPED:-} ]] || echo "bench/$(basename "$0"): $1" >>"$SKIPPED"
+    exit 0
+}
+
 # Proves crates/rdm_bench and what it depends on, where that isn't done yet, and builds the static library. A line on
 # standard error for each function that is proved; where something fails, the end of the log.
 build_library() {
@@ -56,4 +63,27 @@ row_instructions() {
     # The instructions before the first round are in both runs, and drop out.
     rounds=$(((many - few) * divisor))
     echo $((($(instructions_of "$made/driver" "$frames" "$row" "$many") - $(instructions_of "$made/driver" "$frames" "$row" "$few") + rounds / 2) / rounds))
+}
+
+# Compares what was measured with a file of figures: in both a line has a name, a tab and a figure. It fails if one is 2 % and so many more
+# or less than the file says, or if a line is in only one of the two.
+#
+#   compare_figures FILE MEASURED [SO_MANY]
+compare_figures() {
+    awk -F '\t' -v script="bench/$(basename "$0")" -v file="bench/$(basename "$1")" -v slack="${3:-0}" '
+        function complain(text) { print script ": " text >"/dev/stderr"; failed = 1 }
+        NR == FNR { said[$1] = $2; next }
+        !($1 in said) { complain(file " has no line for \"" $1 "\", which takes " $2); next }
+        {
+            difference = $2 > said[$1] ? $2 - said[$1] : said[$1] - $2
+            if (50 * (difference - slack) > said[$1]) complain("\"" $1 "\" takes " $2 ", and " file " says " said[$1])
+            delete said[$1]
+            rows++
+        }
+        END {
+            for (name in said) complain(file " has \"" name "\", which nothing measures")
+            if (!failed) print script ": " rows " figures are those of " file
+            exit failed
+        }
+    ' "$1" "$2"
 }

@@ -205,17 +205,15 @@ int main(void)
     stack = mmap(NULL, STACK, PROT_READ | PROT_WRITE, MAP_PRIVATE | MAP_ANONYMOUS, -1, 0);
     if (stack == MAP_FAILED)
         return 1;
-    printf("sub-devices   heap   stack to make it   stack to hear a frame\n");
     for (size_t i = 0; i < sizeof subs / sizeof *subs; i++) {
         run.subs = subs[i];
         run.length = 0;
         on_its_own_stack();
-        size_t heap = most_held;
-        long made = (long)(caller - last_allocation);
-        printf("%11u %6zu %18ld %23ld\n", subs[i], heap, made, deepest());
+        printf("heap, sub-devices %u\t%zu\n", subs[i], most_held);
+        printf("stack to make it, sub-devices %u\t%ld\n", subs[i], (long)(caller - last_allocation));
+        printf("stack to receive a frame, sub-devices %u\t%ld\n", subs[i], deepest());
     }
-    printf("\nqueue   entries   heap\n");
     for (size_t i = 0; i < sizeof sizes / sizeof *sizes; i++)
-        printf("%5u %9u %6zu\n", sizes[i][0], sizes[i][1], heap_of(sizes[i][0], sizes[i][1]));
+        printf("heap, queue %u, status entries %u\t%zu\n", sizes[i][0], sizes[i][1], heap_of(sizes[i][0], sizes[i][1]));
     return 0;
 }

@@ -48,7 +48,7 @@ typedef struct { uint64_t at; } felosumay_responder;
 typedef struct { uint64_t at; } felosumay_collector;
 typedef struct { uint64_t at; } felosumay_search;
 
-/* What became of a call. */
+/* The result of a call. */
 typedef uint8_t felosumay_result;
 enum {
     FELOSUMAY_DONE = 0,          /* it was carried out */
@@ -102,7 +102,7 @@ typedef struct {
 #define FELOSUMAY_TEXT(letters) { sizeof(letters) - 1, letters }
 
 typedef struct {
-    uint16_t footprint; /* how many DMX512 slots it takes: of the root at most slot_count and more_slots together; at most 512 */
+    uint16_t footprint; /* how many DMX512 slots it takes: at most 512, and at the root at most slot_count + more_slots */
     felosumay_text name;
 } felosumay_personality;
 
@@ -116,7 +116,7 @@ typedef struct {
 
 /* What a sensor measures (sections 10.7.1 and 10.7.2). Its values are in `unit`, times what `prefix` stands for. */
 typedef struct {
-    int16_t low; /* the least and the greatest value that it can give; nothing compares them with its readings */
+    int16_t low; /* the least and the greatest value that it can give; readings aren't checked against them */
     int16_t high;
     int16_t normal_low; /* the least and the greatest value in normal use */
     int16_t normal_high;
@@ -149,31 +149,31 @@ enum {
     FELOSUMAY_DS_SIGNED_WORD = 0x06,
     FELOSUMAY_DS_UNSIGNED_DWORD = 0x07,
     FELOSUMAY_DS_SIGNED_DWORD = 0x08,
-    /* None of table A-15: of parameters of E1.37-1, which PARAMETER_DESCRIPTION doesn't describe. */
+    /* Not in table A-15: for parameters of E1.37-1, which PARAMETER_DESCRIPTION doesn't describe. */
     FELOSUMAY_DS_CHOICE = 0xF0, /* the number of an item, from low (1) to high; the GET reply has high after it */
-    FELOSUMAY_DS_NAMES = 0xF1,  /* no data: the names of the options of the choice whose PID is the one before */
-    FELOSUMAY_DS_RATES = 0xF2,  /* the same, with a frequency of each */
-    FELOSUMAY_DS_SCENES = 0xF3, /* the times of scenes 1 to high; those up to low can only be read (PRESET_STATUS); starts empty */
-    FELOSUMAY_DS_LOCK = 0xF4,   /* the number of a lock state, 0 to high, which a SET with the PIN sets (LOCK_STATE); low is 0 */
+    FELOSUMAY_DS_NAMES = 0xF1,  /* no data: the names of the items of the choice with the PID before this one */
+    FELOSUMAY_DS_RATES = 0xF2,  /* the same, each with a frequency */
+    FELOSUMAY_DS_SCENES = 0xF3, /* the times of scenes 1 to high; those up to low can only be read (PRESET_STATUS); `start` is empty */
+    FELOSUMAY_DS_LOCK = 0xF4,   /* the number of a lock state, 0 to high; a SET needs the PIN (LOCK_STATE); low is 0 */
     FELOSUMAY_DS_PIN = 0xF5,    /* that PIN: two bytes, from low, which is 0, to high, which is 9999 (LOCK_PIN) */
-    FELOSUMAY_DS_BLOCK = 0xF6   /* no data of its own: the start addresses of all sub-devices (DMX_BLOCK_ADDRESS); starts empty */
+    FELOSUMAY_DS_BLOCK = 0xF6   /* no data of its own: the start addresses of all sub-devices (DMX_BLOCK_ADDRESS); `start` is empty */
 };
 enum {
     FELOSUMAY_CC_GET = 0x01,
     FELOSUMAY_CC_SET = 0x02, /* an order: `step` reports each as a change, and `own_value` reads its data */
     FELOSUMAY_CC_GET_SET = 0x03,
-    FELOSUMAY_CC_GET_CLEAR = 0xF0 /* none of table A-16: a SET has no data, and clears it to zero (COMMS_STATUS) */
+    FELOSUMAY_CC_GET_CLEAR = 0xF0 /* not in table A-16: a SET has no data, and clears it to zero (COMMS_STATUS) */
 };
 
 /* One of the numbers in the slots of a parameter, one after another, the most significant byte first. */
 typedef struct {
     uint32_t low; /* the least and the greatest number that it can be */
     uint32_t high;
-    uint32_t also; /* one more number that it can be, as 0xFFFF for a time without end; if there is none, `low` again */
+    uint32_t also; /* one more number that it can be, such as 0xFFFF for a time without end; `low` again if there is none */
     uint8_t slots; /* 1, 2 or 4 */
 } felosumay_field;
 
-/* The name of an option of a choice. */
+/* The name of an item of a choice. */
 typedef struct {
     uint32_t hertz; /* the frequency, if it is one */
     uint16_t pid;   /* that of the parameter with the names, of kind DS_NAMES or DS_RATES */
@@ -181,31 +181,31 @@ typedef struct {
     felosumay_text name;
 } felosumay_choice;
 
-/* A parameter that a lock state keeps from being set by a controller; the firmware changes it all the same. */
+/* A parameter that no controller can set in a lock state; the firmware still can. */
 typedef struct {
-    uint16_t pid;  /* one of the table or of the maker's own; a slow command is never locked */
+    uint16_t pid;  /* a parameter of the table or of the maker's own; one with a slow SET can't be locked */
     uint8_t state; /* the state of LOCK_STATE, from 1 */
 } felosumay_lock;
 
-/* A parameter of the maker's own, which the root has (section 10.4.2). PARAMETER_DESCRIPTION says all except `resets` of those of
- * 0x8000 to 0xFFDF. Its values are in `unit`, times what `prefix` stands for. */
+/* A parameter of the maker's own, at the root (section 10.4.2). If its PID is 0x8000 to 0xFFDF, PARAMETER_DESCRIPTION describes it with
+ * all of these except `resets`. Its values are in `unit`, times what `prefix` stands for. */
 typedef struct {
-    int64_t low; /* the least and the greatest number that it takes: numbers of its type, or of other data without meaning */
+    int64_t low; /* the least and the greatest number that it accepts, both of its type; ignored if its data aren't a number */
     int64_t high;
-    uint16_t pid;     /* 0x8000 to 0xFFDF, or one of the standards' that docs/PARAMETERS.md lends; no two alike */
+    uint16_t pid;     /* 0x8000 to 0xFFDF, or one of a standard that docs/PARAMETERS.md lists; no two alike */
     uint8_t kind;     /* the type of its data, FELOSUMAY_DS_.. */
     uint8_t commands; /* FELOSUMAY_CC_.. */
-    uint8_t size;     /* how many slots a bit field or data of no defined type have: 0 to 32; of other types without meaning */
+    uint8_t size;     /* how many slots DS_BIT_FIELD or DS_NOT_DEFINED has: 0 to 32; ignored for other types */
     uint8_t unit;     /* FELOSUMAY_UNITS_.. */
     uint8_t prefix;   /* FELOSUMAY_PREFIX_.. */
-    uint8_t resets;   /* 1 if FACTORY_DEFAULTS sets it back, as a setting; 0 if it doesn't, as of a counter */
-    felosumay_text start; /* what it starts with: the data of a SET, in its range, the most significant byte first */
+    uint8_t resets;   /* 1 if FACTORY_DEFAULTS resets it, such as a setting; 0 if not, such as a counter */
+    felosumay_text start; /* its first value: the data of a SET, in its range, the most significant byte first */
     felosumay_text name;
-    uint8_t field_count;       /* how many numbers the slots of data of no defined type hold: 0 to 8; 0 if described elsewhere */
+    uint8_t field_count;       /* how many numbers the slots of DS_NOT_DEFINED hold: 0 to 8; 0 if their form is described elsewhere */
     felosumay_field fields[8]; /* they take all of its slots */
 } felosumay_parameter;
 
-/* The last two fields of a parameter whose slots say no numbers, in an initializer. */
+/* For an initializer: the last two fields of a parameter whose slots aren't numbers. */
 #define FELOSUMAY_NO_FIELDS 0, {{0, 0, 0, 0}}
 
 typedef struct {
@@ -215,10 +215,10 @@ typedef struct {
     uint16_t start;    /* the DMX512 start address: 1 to 512 */
     felosumay_text model_text;
     felosumay_text maker_text;
-    felosumay_text label; /* the label that it starts with */
+    felosumay_text label; /* its first label */
     felosumay_text software_text;
     uint8_t personality_count;              /* 1 to 8 */
-    felosumay_personality personalities[8]; /* the first is number 1, and the one that it starts with */
+    felosumay_personality personalities[8]; /* the first is number 1, and active at first */
 } felosumay_unit;
 
 /* How long slow commands take, in tenths of a second: the estimate of ACK_TIMER (section 6.3.3). 0 stands for the usual time. */
@@ -231,7 +231,7 @@ typedef struct {
 
 /* Which worker carries out which slow command: each has its jobs one after the other, in the order in which they were accepted. */
 enum {
-    FELOSUMAY_WORKER_USUAL = 0, /* the worker that the table has for it */
+    FELOSUMAY_WORKER_USUAL = 0, /* the usual one, as below */
     FELOSUMAY_WORKER_0 = 1,
     FELOSUMAY_WORKER_1 = 2 /* so is every greater number */
 };
@@ -261,22 +261,22 @@ typedef struct {
     felosumay_self_test tests[8];
     felosumay_status_text status_texts[8];
     uint16_t more_slots; /* how many DMX512 slots the root has that `slots` doesn't describe: 0 to 512 */
-    /* What lies outside: `new` reads it once, and it may be NULL if there is none. */
+    /* Lists outside this struct: `new` reads each once, and it may be NULL if its count is 0. */
     FELOSUMAY_WIDE const felosumay_parameter *parameters; /* the maker's own, by ascending PID */
     uint64_t parameter_count;                /* 0 to 32 */
-    FELOSUMAY_WIDE const uint16_t *without; /* the PIDs of those of docs/PARAMETERS.md that the fixture lacks, in any order */
+    FELOSUMAY_WIDE const uint16_t *without; /* the PIDs of the parameters that the fixture lacks, in any order */
     uint64_t without_count;                  /* 0 to 36 */
     felosumay_estimates estimates;         /* how long slow commands take */
     felosumay_workers workers;             /* and which worker carries them out */
-    FELOSUMAY_WIDE const felosumay_choice *choices; /* the names of choices, by ascending PID and number; NULL if there are none */
+    FELOSUMAY_WIDE const felosumay_choice *choices; /* the names of choices, by ascending PID and number */
     uint64_t choice_count;                   /* 0 to 64 */
     uint8_t lock_count;                    /* 0 to 64 */
-    felosumay_lock locks[64];              /* which parameters the lock states keep from being set, in any order */
+    felosumay_lock locks[64];              /* which parameters are locked in which state, in any order */
 } felosumay_profile;
 
 /* The rules of a profile, in the order in which they are tested. BAD_PROFILE says that one of them is broken. */
 enum {
-    FELOSUMAY_NO_FAULT = 0,            /* none is */
+    FELOSUMAY_NO_FAULT = 0,            /* no rule is broken */
     FELOSUMAY_FAULT_SUB_DEVICES = 1,   /* subs is at most 512 */
     FELOSUMAY_FAULT_PRESETS = 2,       /* presets is below 65535 */
     FELOSUMAY_FAULT_PERSONALITIES = 3, /* root and sub have at least one personality each, even if there are no sub-devices */
@@ -291,15 +291,15 @@ enum {
     FELOSUMAY_FAULT_LEFT_OUT_NEEDED = 12,   /* a profile that omits a parameter omits those that need it */
     FELOSUMAY_FAULT_PARAMETER_COUNT = 13,   /* parameter_count is at most 32 */
     FELOSUMAY_FAULT_PARAMETER_PID = 14,     /* each has a PID that is free for it, and no two the same */
-    FELOSUMAY_FAULT_PARAMETER_LIMITS = 15,  /* kind and commands are of those above; size is at most 32; low and high fit, in order */
+    FELOSUMAY_FAULT_PARAMETER_LIMITS = 15,  /* kind and commands are among those above; size is at most 32; low and high fit, in order */
     FELOSUMAY_FAULT_PARAMETER_START = 16,   /* start has as many bytes as the data, and is in range */
     FELOSUMAY_FAULT_PARAMETER_ORDER = 17,   /* their PIDs ascend */
-    FELOSUMAY_FAULT_PARAMETER_FIELDS = 18,  /* the fields of each take all of its slots, and can say their limits, in order */
-    FELOSUMAY_FAULT_PARAMETER_STANDARD = 19, /* one of a standard has the commands and the data of it, or fewer commands */
+    FELOSUMAY_FAULT_PARAMETER_FIELDS = 18,  /* the fields of each take all of its slots, and their limits fit their width, in order */
+    FELOSUMAY_FAULT_PARAMETER_STANDARD = 19, /* one with a PID of a standard has its data and its commands, or fewer of these */
     FELOSUMAY_FAULT_PARAMETER_NAMES = 20,   /* each choice has its names, each name its choice; CURVE has as many as DIMMER_INFO */
-    FELOSUMAY_FAULT_PARAMETER_LOCKS = 21,   /* each lock is of a state from 1 to the greatest of LOCK_STATE */
+    FELOSUMAY_FAULT_PARAMETER_LOCKS = 21,   /* each lock is for a state from 1 to the greatest of LOCK_STATE */
     FELOSUMAY_FAULT_PARAMETER_LOCK_STATE = 22, /* LOCK_STATE can be read, and has LOCK_PIN beside it */
-    FELOSUMAY_FAULT_PARAMETER_LOCKED = 23   /* each lock is of a parameter that the root sets at once, and not of LOCK_STATE */
+    FELOSUMAY_FAULT_PARAMETER_LOCKED = 23   /* each lock is for a parameter with a quick SET at the root, and not for LOCK_STATE */
 };
 
 /* The first rule that the profile breaks, or NO_FAULT; then `new` doesn't return BAD_PROFILE. */
@@ -310,7 +310,7 @@ static inline uint8_t felosumay_profile_fault(const felosumay_profile *profile);
 /* An accepted slow command. Keep it until it has ended, and pass it back with the outcome. */
 typedef struct {
     uint32_t number;   /* counts the jobs of its worker, from the first number of the responder; 0 comes after the greatest */
-    uint16_t estimate; /* tenths of a second, as ACK_TIMER says to the controller */
+    uint16_t estimate; /* tenths of a second, as in the ACK_TIMER */
     uint16_t sub;      /* the sub-device, 1 to 512, or 0 for the root */
     uint16_t pid;      /* FELOSUMAY_PID_.. of the slow command */
     uint8_t command_class; /* FELOSUMAY_GET or FELOSUMAY_SET */
@@ -323,23 +323,23 @@ typedef struct {
     uint8_t replied; /* 1 if there is a reply, else 0 */
     uint8_t started; /* 1 if a job started, else 0 */
     uint8_t changed; /* FELOSUMAY_NOTHING_CHANGED and so on */
-    felosumay_job job; /* the job that started, if one did; else without meaning */
+    felosumay_job job; /* the job that started, if one did; else meaningless */
     uint16_t changed_sub_device; /* if one value changed, the sub-device, or 0 for the root; else 0 */
     uint16_t changed_parameter;  /* if one value changed, its PID; else 0 */
 } felosumay_stepped;
 
-/* What a request changed of the values that `get` reads. A job that has ended, a change at the menu and what is placed aren't
- * reported here: the firmware made those calls itself. */
+/* What a request changed, among the values that `get` reads. The end of a job, a change at the menu and `place` aren't reported here:
+ * the firmware made those calls itself. */
 enum {
-    FELOSUMAY_NOTHING_CHANGED = 0, /* every value is what it was, even if there was a SET */
+    FELOSUMAY_NOTHING_CHANGED = 0, /* no value changed, even if there was a SET */
     FELOSUMAY_ONE_CHANGED = 1,     /* one parameter of one device; after RECORD_SENSORS it is SENSOR_VALUE, of one sensor or all */
     FELOSUMAY_SEVERAL_CHANGED = 2  /* several: by a SET of all sub-devices, or of DMX_BLOCK_ADDRESS, or by FACTORY_DEFAULTS */
 };
 
 typedef struct {
     uint8_t kind;     /* FELOSUMAY_JOB_DONE and so on */
-    uint8_t severity; /* if it failed, its status type: 0x02 advisory, 0x03 warning, 0x04 error; 0x12, 0x13, 0x14 when over */
-    int16_t reading; /* if it is a reading: what the sensor measures, in its unit and prefix */
+    uint8_t severity; /* if it failed, its status type: 0x02 advisory, 0x03 warning, 0x04 error; 0x12, 0x13, 0x14 when cleared */
+    int16_t reading; /* if it is a reading: what the sensor measured, in its unit and prefix */
     uint16_t id;     /* if it failed: the status ID, and the two values that its text names, in the text's units, or 0 */
     uint16_t v1;
     uint16_t v2;
@@ -356,9 +356,9 @@ enum {
  * entries wait at most to be shown, 1 to 1,024, at 9 bytes each: 1,024 if no number is passed. If it isn't DONE, the handle
  * stays as it was. BAD_UID, BAD_SIZE, BAD_PROFILE, OUT_OF_MEMORY, in this order.
  *
- * `first_job` is the number of each worker's first job: 0 if no number is passed. A report is known by the numbers of its job, so
- * if a worker may still report a job of the responder before, pass a number that no job of it had: the greatest `number` that
- * came, plus 1. A responder accepts at most 4,294,967,295 jobs for each worker, so that no two have the same number. */
+ * `first_job` is the number of each worker's first job: 0 if no number is passed. A report is identified by the numbers of its job. So if
+ * a worker may still report a job of the previous responder, pass a number that none of its jobs had: its greatest `number` so far, plus
+ * 1. A responder accepts at most 4,294,967,295 jobs for each worker, so that no two have the same number. */
 static inline felosumay_result felosumay_responder_new(felosumay_responder *responder, uint16_t maker, uint32_t device,
                                                        const felosumay_profile *profile, uint16_t queue_size);
 static inline felosumay_result felosumay_responder_new_with(felosumay_responder *responder, uint16_t maker, uint32_t device,
@@ -369,12 +369,12 @@ felosumay_result felosumay_responder_demo(felosumay_responder *responder, uint16
 
 /* How many bytes of memory a responder takes with room for so many messages and jobs and status entries, and with so many
  * sub-devices, each block rounded up to 16 bytes: `new` asks the heap for no more, and no later call asks it for any.
- * FELOSUMAY_RESPONDER_BYTES is the same as a constant, for the size of an array. A profile takes more if it has anything that few
- * have, each of these that applies: FELOSUMAY_PARTICULARS_BYTES if it has `parameters`, `without`, `choices`, `locks`, `more_slots` or
+ * FELOSUMAY_RESPONDER_BYTES is the same as a constant, for the size of an array. A profile with unusual features takes more: add
+ * each of these that applies. FELOSUMAY_PARTICULARS_BYTES if it has `parameters`, `without`, `choices`, `locks`, `more_slots` or
  * unusual `estimates`; FELOSUMAY_OWN_PARAMETERS_BYTES of the number of its parameters; FELOSUMAY_VALUES_BYTES of how many of them are
  * orders, and how many scenes PRESET_STATUS has; FELOSUMAY_CHOICES_BYTES and FELOSUMAY_LOCKS_BYTES of those numbers.
- * `fits` says whether a responder of this size has room in so many bytes of memory from this address on, as
- * felosumay_memory.h makes one: UNALIGNED, SHORT_MEMORY, in this order. Any sizes are calculated; `new` rejects a BAD_SIZE. */
+ * `fits` tests whether a responder of this size fits into so many bytes at this address, as felosumay_memory.h makes one: UNALIGNED,
+ * SHORT_MEMORY, in this order. Both calls calculate with any sizes; `new` rejects a BAD_SIZE. */
 uint64_t felosumay_responder_size(uint16_t queue_size, uint16_t entries, uint16_t sub_devices);
 felosumay_result felosumay_responder_fits(uint64_t address, uint64_t bytes, uint16_t queue_size, uint16_t entries,
                                           uint16_t sub_devices);
@@ -389,21 +389,21 @@ felosumay_result felosumay_responder_fits(uint64_t address, uint64_t bytes, uint
      FELOSUMAY_ROUNDED(248 * (uint64_t)(queue_size)) + FELOSUMAY_ROUNDED(9 * (uint64_t)(entries)))
 
 /* Takes received bytes. If there is a reply, it is at the front of `reply`; the answer to discovery is a reply like any other,
- * and has no break before it. What stands behind the reply has no meaning. ABSENT: `replied`, `started` and
+ * and has no break before it. The bytes after the reply are meaningless. ABSENT: `replied`, `started` and
  * `changed` are 0 then. */
 static inline felosumay_result felosumay_responder_step(felosumay_responder *responder, const uint8_t *bytes, uint64_t length,
                                                         uint8_t reply[FELOSUMAY_FRAME_BYTES], felosumay_stepped *stepped);
 
 /* Takes the report of a job. `kept` is 1 if it left a status entry that is kept, else 0. UNKNOWN, ABSENT, ASTRAY, in this
- * order; nothing changes then. Each field of the job is compared with the responder's own record. A job is known by these alone: that of
- * another responder, or of the one that the handle held before, is taken for one of this responder that has the same (`first_job`). */
+ * order; nothing changes then. Each field of the job is compared with the responder's own record. A job is identified by these
+ * alone: one of another responder, or of the previous one of this handle, is mistaken for a job of this responder with the same numbers
+ * (`first_job`). */
 felosumay_result felosumay_responder_arrive(felosumay_responder *responder, const felosumay_job *job,
                                             const felosumay_outcome *outcome, uint8_t *kept);
 
-/* A person changes something at the fixture's own menu, and a message for the controller waits; each DONE adds one,
- * even if the value is as it was. Only polls take messages away: if no controller polls, the queue fills up, and each
- * change is NO_ROOM from then on. `place` needs no room. TOO_LONG for a label, then ABSENT, NO_ROOM, OUT_OF_RANGE, in this
- * order; nothing changes then. */
+/* A person changes something at the fixture's own menu. Each DONE queues a message for the controller, even if the value stays the
+ * same. Only polls take messages from the queue: if no controller polls, it fills up, and each change is NO_ROOM from then on. `place`
+ * needs no room. TOO_LONG for a label, then ABSENT, NO_ROOM, OUT_OF_RANGE, in this order; nothing changes then. */
 felosumay_result felosumay_responder_change_start(felosumay_responder *responder, uint16_t start);
 felosumay_result felosumay_responder_change_personality(felosumay_responder *responder, uint8_t number);
 static inline felosumay_result felosumay_responder_change_label(felosumay_responder *responder, const uint8_t *label,
@@ -412,29 +412,29 @@ static inline felosumay_result felosumay_responder_change_label(felosumay_respon
 /* Whether there is room for the message of a change: `there` is 1 then, else 0. ABSENT. */
 felosumay_result felosumay_responder_room(const felosumay_responder *responder, uint8_t *there);
 
-/* The firmware sets a value of its own: of the root (`sub` 0) or of a sub-device, 1 to 512. It counts hours or strikes, or has
- * no room for the message of a change. The value becomes what a SET of it makes it,
- * at once, with no message, and needs no room, even if a SET on the line is slow; the factory's defaults stay the profile's.
- * Firmware also places what a GET may tell and no SET may ask for: as LAMP_STATE 0x04 (lamp not present), 0x7F (lamp error) and the
- * maker's 0x80 to 0xDF (table A-8), as LAMP_ON_MODE the maker's 0x80 to 0xDF (table A-9).
+/* Sets a stored value as a SET would, at the root (`sub` 0) or at a sub-device, 1 to 512: hours or strikes that the firmware counts,
+ * what a sensor shows, or a change at the menu for whose message there is no room. It takes effect at once, even if the SET on the line
+ * is slow, and sends no message. FACTORY_DEFAULTS still returns to the profile's values.
+ * Firmware can also place what a GET may return but no SET may ask for: for LAMP_STATE 0x04 (lamp not present), 0x7F (lamp error) and the
+ * maker's 0x80 to 0xDF (table A-8), for LAMP_ON_MODE the maker's 0x80 to 0xDF (table A-9).
  * `data` are those of the SET, in its range and units, the most significant byte first (DEVICE_HOURS: 4 bytes, in hours, E1.20
- * section 10.8.1); what a sensor shows is placed as SENSOR_VALUE, 0x0201, at the root, by the 9 bytes with which that replies:
- * the sensor's number, then its present, lowest, highest and recorded value (section 10.7.2); a scene, also one that can only
- * be read, as PRESET_STATUS, 0x1042, by the 9 bytes of its SET (E1.37-1). docs/PARAMETERS.md has the list.
+ * section 10.8.1). What a sensor shows is placed as SENSOR_VALUE, 0x0201, at the root, with the 9 bytes of its reply: the sensor's
+ * number, then its present, lowest, highest and recorded value (section 10.7.2). A scene, even one that can only be read, is placed as
+ * PRESET_STATUS, 0x1042, with the 9 bytes of its SET (E1.37-1). docs/PARAMETERS.md has the list.
  * ABSENT; NO_DEVICE if there is no such sub-device; NOT_STORED if the device stores no value of `pid`; BAD_LENGTH;
  * OUT_OF_RANGE, in this order; nothing changes then. */
 static inline felosumay_result felosumay_responder_place(felosumay_responder *responder, uint16_t sub, uint16_t pid,
                                                          const uint8_t *data, uint64_t length);
 
-/* Values outlive power-off: `save` writes an image of all of them at the front of `image`, and `restore` takes it when the
- * fixture is on again, before anything is heard. What lamp, identification, power state, self test and preset are at isn't in it,
- * nor what the sensors measured, except what they recorded. Of one profile all images have the same number of bytes:
- * `saved_size` says it, and FELOSUMAY_SAVED_BYTES is the same as a constant, of the profile's counts: how many sub-devices, sensors and
- * parameters of its own it has, how many of these are orders (FELOSUMAY_CC_SET), how many scenes PRESET_STATUS has, and how many
- * parameters it leaves out. No profile has more than FELOSUMAY_MOST_SAVED_BYTES.
- * The program keeps images where it likes, such as in two areas of flash (felosumay_images.h), and one that is cut or altered is
- * refused. DEVICE_POWER_CYCLES counts one more than was saved (E1.20 section 10.8.6). No message waits, and jobs, messages and status
- * entries stay.
+/* Values outlive power-off: `save` writes an image of all of them to the front of `image`, and `restore` loads it when the fixture is on
+ * again, before its first request. The states of the lamp, of identification, of power, of a self test and of a preset aren't in it, nor
+ * what the sensors measured, except their recorded values. All images of one profile have the same number of bytes, `saved_size`.
+ * FELOSUMAY_SAVED_BYTES is the same as a constant, from the profile's counts: its sub-devices, sensors and own parameters, how many of
+ * these are orders (FELOSUMAY_CC_SET), how many scenes PRESET_STATUS has, and how many parameters it omits. No profile has more than
+ * FELOSUMAY_MOST_SAVED_BYTES.
+ * The program stores images where it likes, such as in two areas of flash (felosumay_images.h); one that is truncated or altered is
+ * rejected. DEVICE_POWER_CYCLES counts one more than was saved (E1.20 section 10.8.6). `restore` queues no message, and jobs, messages and
+ * status entries stay.
  * `saved_size`: ABSENT. `save`: ABSENT, SHORT_IMAGE; nothing is written then. `restore`: ABSENT, IMAGE_LENGTH, ALTERED_IMAGE,
  * FOREIGN_IMAGE, in this order; nothing changes then. */
 #define FELOSUMAY_SAVED_BYTES(sub_devices, sensors, parameters, orders, scenes, without)                                   \
@@ -446,11 +446,11 @@ felosumay_result felosumay_responder_save(const felosumay_responder *responder, 
 static inline felosumay_result felosumay_responder_restore(felosumay_responder *responder, const uint8_t *image, uint64_t length);
 
 /* The firmware reports a problem, such as a blocked fan, as a status entry of the root (`sub` 0) or of a
- * sub-device, 1 to 512. A controller gets it once, with STATUS_MESSAGES (E1.20 section 10.3.2). `severity` is the status type
- * (table A-4): 0x02 advisory, 0x03 warning, 0x04 error; 0x12, 0x13, 0x14 when that is over. `id` is the status ID, which the
+ * sub-device, 1 to 512. A controller receives it once, with STATUS_MESSAGES (E1.20 section 10.3.2). `severity` is the status type
+ * (table A-4): 0x02 advisory, 0x03 warning, 0x04 error; 0x12, 0x13, 0x14 when that has cleared. `id` is the status ID, which the
  * profile's status texts explain (section 10.3.3), and `v1` and `v2` are the values that its text names, in its units, or 0.
- * `noted` is 1 if the entry is kept, else 0: it is if the device is there, its threshold isn't 0x00 nor above the entry (section
- * 10.3.5), and a place for entries is free. UNKNOWN if `severity` is another, then ABSENT; nothing changes then. */
+ * `noted` is 1 if the entry is kept, else 0: it is kept if the device exists, its threshold is neither 0x00 nor above the entry (section
+ * 10.3.5), and there is room for one more. UNKNOWN if `severity` is another, then ABSENT; nothing changes then. */
 felosumay_result felosumay_responder_note(felosumay_responder *responder, uint16_t sub, uint8_t severity, uint16_t id,
                                           uint16_t v1, uint16_t v2, uint8_t *noted);
 
@@ -460,9 +460,9 @@ static inline felosumay_result felosumay_responder_get(const felosumay_responder
                                                        const uint8_t *argument, uint64_t length, uint8_t value[FELOSUMAY_VALUE_BYTES],
                                                        uint64_t *count, uint16_t *reason);
 
-/* Reads what is kept of a parameter of `parameters`, whichever commands it has: the data of an order, which no GET reads. The firmware
- * does so when `step` says that it changed, sends the reply, and carries the order out. ABSENT; NOT_STORED if the profile adds no
- * parameter of this PID. Nothing changes. */
+/* Reads the value of a parameter of `parameters`, whatever commands it has, such as the data of an order, which no GET reads: when `step`
+ * reports the order as a change, the firmware reads it, sends the reply, and carries it out. ABSENT; NOT_STORED if the profile adds no
+ * parameter with this PID. Nothing changes. */
 felosumay_result felosumay_responder_own_value(const felosumay_responder *responder, uint16_t pid,
                                                uint8_t value[FELOSUMAY_VALUE_BYTES], uint64_t *count);
 
@@ -477,9 +477,9 @@ void felosumay_responder_free(felosumay_responder *responder);
 
 /* What an area holds. */
 typedef struct {
-    uint16_t counter; /* of two images the newer has the next one; 0 follows 65535 */
+    uint16_t counter; /* the newer of two images has the next number; 0 follows 65535 */
     uint16_t length;  /* how many bytes its payload has: 0 to 65535 */
-    uint8_t there;    /* 1 if the area holds an image; 0 if it holds none, and then the other fields mean nothing */
+    uint8_t there;    /* 1 if the area holds an image; 0 if it holds none: then the other fields are meaningless */
 } felosumay_image;
 
 enum { FELOSUMAY_IMAGE_HEADER_BYTES = 12 }; /* how many bytes of an image stand in front of its payload */
@@ -504,31 +504,29 @@ static inline felosumay_result felosumay_images_next(uint32_t key, const felosum
 
 /* ---- the receiver: it extracts packets and levels from what a UART receives */
 
-/* It needs no other memory, and starts as {0}. Never write it; read only its field `packet`. It may
- * be copied, and then both have heard the same. */
+/* It needs no other memory, and starts as {0}. Never write it; read only its field `packet`. A copy goes on as the original would. */
 typedef struct {
     uint16_t count;
     uint8_t state;
-    uint8_t packet[FELOSUMAY_FRAME_BYTES]; /* the bytes of a packet, when one is told; they stay until the next call */
+    uint8_t packet[FELOSUMAY_FRAME_BYTES]; /* the bytes of a packet that was reported; they stay until the next call */
 } felosumay_receiver;
 
-/* What has come with a byte. */
+/* What a byte completes. */
 enum {
-    FELOSUMAY_RECEIVED_NOTHING = 0, /* no more than the byte: `number` is 0 */
+    FELOSUMAY_RECEIVED_NOTHING = 0, /* nothing: `number` is 0 */
     FELOSUMAY_RECEIVED_PACKET = 1,  /* a packet of RDM: `number` bytes at the front of `packet`, 26 to 257 */
     FELOSUMAY_RECEIVED_LEVEL = 2    /* a level of DMX512: the byte is that of slot `number`, 1 to 512 */
 };
 
 /* Pass in each signal in the order in which the UART reports it: a break; a byte; or an error, which is a framing error other than a
- * break, or an overrun. They take the same few steps each time, and allocate nothing: call them
- * where the UART interrupts. docs/FIXTURES.md shows how, and says when a reply is due.
+ * break, or an overrun. Each call takes the same few steps and allocates nothing: call it from the UART's interrupt. docs/FIXTURES.md
+ * shows how, and says when a reply is due.
  *
- * A packet is reported with its last byte. It is exactly what came since the break: CC, 01, a message length of at
- * least 24, and as many bytes as that says with the 2 of the checksum (E1.20 sections 6.2.1 to 6.2.3 and 6.2.11). Hand it to
- * `felosumay_responder_step`, which tests the rest: a packet with a wrong checksum is told too, and isn't answered. A level is told of
- * each slot behind a break and 00, at once; nothing is kept of it. Nothing else is reported: other START codes, the answers to discovery,
- * which have no break before them, bytes behind the end of a packet or behind slot 512, and after an error whatever comes up to the next
- * break. */
+ * A packet is reported with its last byte. It is exactly what came since the break: CC, 01, a message length of at least 24, and as many
+ * bytes as that says, with the 2 of the checksum (E1.20 sections 6.2.1 to 6.2.3 and 6.2.11). Pass it to `felosumay_responder_step`, which
+ * tests the rest: a packet with a wrong checksum is reported, too, but not answered. The level of each slot after a break and 00 is
+ * reported at once, and not kept. Nothing else is reported: not other START codes; not the answers to discovery, which have no break before
+ * them; not bytes after the end of a packet or after slot 512; and after an error nothing until the next break. */
 void felosumay_receiver_break(felosumay_receiver *receiver);
 void felosumay_receiver_error(felosumay_receiver *receiver);
 uint8_t felosumay_receiver_byte(felosumay_receiver *receiver, uint8_t byte, uint16_t *number);
@@ -546,11 +544,11 @@ enum {
     FELOSUMAY_FRAME_CHECKSUM = 6   /* the last two are the sum of the others */
 };
 
-/* The first test that bytes fail, or IS_FRAME: for the counts of COMMS_STATUS. A responder and a collector ignore what isn't a frame. The
- * answer to discovery isn't one. */
+/* The first test that the bytes fail, or IS_FRAME: for the counts of COMMS_STATUS. Responders and collectors ignore what isn't a frame. The
+ * answer to discovery isn't a frame. */
 static inline uint8_t felosumay_frame_fault(const uint8_t *bytes, uint64_t length);
 
-/* ---- the collector: it fetches the messages of one device, whatever the device answers polls by, and sends commands meanwhile */
+/* ---- the collector: it fetches the messages of one device, however that answers polls, and sends commands in between */
 
 typedef struct {
     uint32_t device; /* the device ID and the manufacturer ID of the destination */
@@ -560,17 +558,17 @@ typedef struct {
     uint8_t command_class; /* FELOSUMAY_GET, FELOSUMAY_SET or FELOSUMAY_DISCOVERY */
 } felosumay_command;
 
-/* A message of the device's, or a part of one (E1.20 section 10.3.1). */
+/* A message from the device, or a part of one (E1.20 section 10.3.1). */
 typedef struct {
     uint64_t count; /* how many bytes of data it has: 0 to 231 */
     uint16_t pid;    /* its parameter, FELOSUMAY_PID_.. or one of the maker's own */
     uint16_t sub;    /* the sub-device, 1 to 512, or 0 for the root */
-    uint16_t reason; /* of a NACK_REASON why an earlier command was rejected, FELOSUMAY_NR_..; else 0 */
-    uint16_t tenths; /* of an ACK_TIMER in how many tenths of a second a result is there; else 0 */
-    uint8_t type;    /* FELOSUMAY_ACK and so on; FELOSUMAY_ACK_OVERFLOW says that it is a part, and that more of it follows */
-    uint8_t command_class; /* that of the response: 0x21 of a GET, 0x31 of a SET */
-    uint8_t may_repeat;    /* 1 if it was asked for again, so that it may be what came before it once more; else 0 */
-    uint8_t after_loss;    /* 1 if a poll has no answer since what was recorded before it, so that something may be missing; else 0 */
+    uint16_t reason; /* if it is a NACK, why an earlier command was rejected, FELOSUMAY_NR_..; else 0 */
+    uint16_t tenths; /* if it is an ACK_TIMER, in how many tenths of a second the result is due; else 0 */
+    uint8_t type;    /* FELOSUMAY_ACK and so on; FELOSUMAY_ACK_OVERFLOW if it is a part, and more of the message follows */
+    uint8_t command_class; /* that of the response: 0x21 for a GET, 0x31 for a SET */
+    uint8_t may_repeat;    /* 1 if it was asked for again, so it may repeat the message before it; else 0 */
+    uint8_t after_loss;    /* 1 if a poll got no answer since the previous one was recorded, so something may be missing; else 0 */
     uint8_t bytes[FELOSUMAY_VALUE_BYTES];
 } felosumay_message;
 
@@ -581,10 +579,10 @@ typedef struct {
     uint16_t maker;
     uint16_t sub; /* the sub-device, 1 to 512, or 0 for the root */
     uint16_t pid; /* FELOSUMAY_PID_.. or one of the maker's own */
-    uint16_t reason; /* of a NACK_REASON why the request is rejected, FELOSUMAY_NR_..; else 0 */
-    uint16_t tenths; /* of an ACK_TIMER in how many tenths of a second the result is there; else 0 */
+    uint16_t reason; /* if it is a NACK, why the request is rejected, FELOSUMAY_NR_..; else 0 */
+    uint16_t tenths; /* if it is an ACK_TIMER, in how many tenths of a second the result is due; else 0 */
     uint8_t type;    /* FELOSUMAY_ACK and so on */
-    uint8_t command_class; /* that of the response: 0x11 of discovery, 0x21 of a GET, 0x31 of a SET */
+    uint8_t command_class; /* that of the response: 0x11 for discovery, 0x21 for a GET, 0x31 for a SET */
     uint8_t waiting;       /* how many messages wait in the device, at most 255: poll if there are any */
     uint8_t bytes[FELOSUMAY_VALUE_BYTES];
 } felosumay_reply;
@@ -592,12 +590,12 @@ typedef struct {
 /* Response types (table A-2). */
 enum {
     FELOSUMAY_ACK = 0,         /* it was carried out */
-    FELOSUMAY_ACK_TIMER = 1,   /* the result comes later: poll for it when the time is over */
+    FELOSUMAY_ACK_TIMER = 1,   /* the result comes later: poll for it when that time is over */
     FELOSUMAY_NACK = 2,        /* it is rejected */
     FELOSUMAY_ACK_OVERFLOW = 3 /* the data are a part: the same request fetches the next */
 };
 
-/* Reads a response. It takes no handle, and asks not whom the response is for: `felosumay_collector_hear` says whether it
+/* Parses a response. It takes no handle, and doesn't check whom the response is for: `felosumay_collector_hear` says whether it
  * answers the open request. NO_REPLY if the bytes aren't a response: a frame of class 0x11, 0x21 or 0x31 with a response type of
  * the table, in which ACK_TIMER and NACK_REASON have two bytes of data. Nothing is written then. */
 static inline felosumay_result felosumay_reply_read(const uint8_t *bytes, uint64_t length, felosumay_reply *reply);
@@ -608,14 +606,14 @@ enum {
     FELOSUMAY_MESSAGE = 1,      /* a message, which answers the open poll */
     FELOSUMAY_REPLY = 2,        /* the reply to the open command */
     FELOSUMAY_PART = 3,         /* a part of a message (ACK_OVERFLOW): the next polls fetch the others (section 6.3.2) */
-    FELOSUMAY_UNSUPPORTED = 4,  /* the device has no queue: it knows no QUEUED_MESSAGE (section 6.3.4) */
+    FELOSUMAY_UNSUPPORTED = 4,  /* the device has no queue: it doesn't support QUEUED_MESSAGE (section 6.3.4) */
     FELOSUMAY_POLL_REFUSED = 5, /* the device rejects the poll for another reason; the next poll goes on */
     FELOSUMAY_NOT_YET = 6       /* the device needs time to answer the poll (section 6.3.3); the next one asks for the same */
 };
 
 typedef struct {
-    uint16_t reason; /* of POLL_REFUSED, FELOSUMAY_NR_..; else 0 */
-    uint16_t tenths; /* of NOT_YET, in how many tenths of a second to poll again; else 0 */
+    uint16_t reason; /* for POLL_REFUSED, FELOSUMAY_NR_..; else 0 */
+    uint16_t tenths; /* for NOT_YET, in how many tenths of a second to poll again; else 0 */
     uint8_t kind;    /* FELOSUMAY_IGNORED and so on */
 } felosumay_heard;
 
@@ -626,8 +624,8 @@ felosumay_result felosumay_collector_new(felosumay_collector *collector, uint16_
                                          uint16_t target_maker, uint32_t target_device, uint8_t wants);
 
 /* Makes the request of a command, or of a poll for the target's next message, at the front of `request`, and opens a
- * transaction. After NOT_YET a poll asks for what the poll before it asked for. Of `ask` UNKNOWN, ABSENT, RESERVED, BUSY, TOO_LONG, and
- * of `poll` ABSENT, BUSY, OUT_OF_MEMORY, in this order; nothing changes then. */
+ * transaction. After NOT_YET a poll asks for the same as the poll before it. `ask`: UNKNOWN, ABSENT, RESERVED, BUSY, TOO_LONG. `poll`:
+ * ABSENT, BUSY, OUT_OF_MEMORY. In this order; nothing changes then. */
 static inline felosumay_result felosumay_collector_ask(felosumay_collector *collector, const felosumay_command *command,
                                                        const uint8_t *load, uint64_t length, uint8_t request[FELOSUMAY_FRAME_BYTES],
                                                        uint64_t *count);
@@ -639,16 +637,15 @@ felosumay_result felosumay_collector_poll(felosumay_collector *collector, uint8_
 static inline felosumay_result felosumay_collector_hear(felosumay_collector *collector, const uint8_t *bytes, uint64_t length,
                                                         felosumay_heard *heard);
 
-/* Ends the open transaction, if there is one, without an answer: call it on a timeout. If a poll ended so, the next poll asks
- * for the last message again. ABSENT. */
+/* Ends the open transaction, if there is one, without an answer: call it on a timeout. After a poll that ended so, the next poll
+ * asks for the last message again. ABSENT. */
 felosumay_result felosumay_collector_over(felosumay_collector *collector);
 
-/* Takes the first message, or part of one, that was recorded and not taken yet, and lets go of it. A message may come twice in a
- * row: if the request of a poll was lost, the next poll asks for the last message, which may have been recorded already. One whose
- * `may_repeat` is 1 and that is equal to the one before it is that one again, and left out. The data of a message in parts are
- * those of its parts, one behind the other: each of type ACK_OVERFLOW but the last, and all of one command class, PID and
- * sub-device. Two parts of a device that say the same look like one that came again: where `after_loss` of a part behind the first
- * is 1, the message is unsure, since a part may be missing. ABSENT, NO_MORE, in this order; nothing changes then. */
+/* Takes the first message, or part of one, that was recorded and not taken yet, and releases it. A message may come twice in a row: if the
+ * request of a poll was lost, the next poll asks for the last message, which may have been recorded already. So drop a message whose
+ * `may_repeat` is 1 and that equals the one before it. The data of a message in parts are those of its parts, joined: each except the last
+ * is of type ACK_OVERFLOW, and all have one command class, PID and sub-device. Two equal parts of a device look like one that was repeated:
+ * if `after_loss` of any part after the first is 1, a part may be missing. ABSENT, NO_MORE, in this order; nothing changes then. */
 felosumay_result felosumay_collector_next(felosumay_collector *collector, felosumay_message *message);
 
 /* Frees what the handle holds, if anything, and sets the handle to {0}. NULL is allowed and does nothing. */
@@ -663,27 +660,27 @@ typedef struct {
     uint16_t maker;
     uint16_t binding_maker;
     uint16_t control;    /* bit 0 a managed proxy, bit 1 sub-devices, bit 2 a boot loader, bit 3 a proxied device */
-    uint8_t has_binding; /* 1 if it has the UID by which the ports of one device say that they are one, else 0 */
+    uint8_t has_binding; /* 1 if it has a binding UID, by which the ports of one device show that they are one; else 0 */
 } felosumay_found;
 
 /* Makes a search for all fixtures of the line, and replaces what the handle held. The first UID is the controller's own. It
- * takes `limit` transactions at most: 74 for each fixture that the line may have, and 2 more, are enough on every line, however
- * collisions sound, with 2 more for each answer that is altered on its way. BAD_UID, OUT_OF_MEMORY, in this order; the handle stays as it
- * was then. */
+ * makes at most `limit` transactions: 74 for each fixture that the line may have, and 2 more, are enough on every line, whatever
+ * collisions sound like, with 2 more for each answer that is altered on its way. BAD_UID, OUT_OF_MEMORY, in this order; the handle stays
+ * as it was then. */
 felosumay_result felosumay_search_new(felosumay_search *search, uint16_t maker, uint32_t device, uint32_t limit);
 
 /* Writes the next request to the front of `request`. Nothing changes: until `hear` each call writes the same.
- * ABSENT; NO_MORE if the search has ended, and each fixture was found; LIMIT if it hasn't and no transaction is left, since
- * the line sounds though nobody answers, or has more fixtures than the limit is for. */
+ * ABSENT; NO_MORE if the search has ended, and each fixture was found; LIMIT if no transaction is left before its end:
+ * there is noise on the line though nobody answers, or the line has more fixtures than the limit is for. */
 felosumay_result felosumay_search_next(const felosumay_search *search, uint8_t request[FELOSUMAY_FRAME_BYTES], uint64_t *count);
 
-/* Hears what came after the request of `next`: all bytes of it, even if they aren't an answer, as after a collision; of
- * length 0 if nothing came. A mute after which bytes come that aren't a valid answer is sent again, 8 times at most, so that an altered
- * answer hides nobody. ABSENT; OUT_OF_MEMORY: the search stands where it stood then, and the same bytes can be heard again. */
+/* Takes what came after the request of `next`: all bytes, even if they aren't an answer, as after a collision; with length 0 if nothing
+ * came. If invalid bytes answer a mute, the same mute is sent again, at most 8 times, so that an altered answer hides no fixture. ABSENT;
+ * OUT_OF_MEMORY: the search stays where it was, and the same bytes can be passed in again. */
 static inline felosumay_result felosumay_search_hear(felosumay_search *search, const uint8_t *bytes, uint64_t length);
 
-/* Begins again with what was found, for fixtures that were plugged in since, or that lost power. It un-mutes none, so that those
- * which were found stay silent: 74 transactions for each of the others and 1 more are enough. ABSENT. */
+/* Starts again for fixtures that were plugged in since, or lost power. It un-mutes none, so those already found stay silent: 74
+ * transactions for each of the others and 1 more are enough. ABSENT. */
 felosumay_result felosumay_search_resume(felosumay_search *search, uint32_t limit);
 
 /* How many fixtures were found so far. ABSENT. */
@@ -693,16 +690,16 @@ felosumay_result felosumay_search_count(const felosumay_search *search, uint64_t
 felosumay_result felosumay_search_found(const felosumay_search *search, uint64_t index, felosumay_found *found);
 
 /* The device with this index, from 0, among those whose answers to all of 9 mutes were invalid: its UID, and 0 in the
- * other fields. One that isn't among those that were found is muted, it may be: on a better line a search made anew finds it. ABSENT;
- * NO_MORE if there are no more. */
+ * other fields. Even if it isn't among those found, it may be muted: a new search on a better line finds it. ABSENT; NO_MORE if there are
+ * no more. */
 felosumay_result felosumay_search_unsure(const felosumay_search *search, uint64_t index, felosumay_found *unsure);
 
 /* Frees what the handle holds, if anything, and sets the handle to {0}. NULL is allowed and does nothing. */
 void felosumay_search_free(felosumay_search *search);
 
-/* ---- how nothing is passed. The library takes no NULL for what it reads, even if the length is 0. So each call above that reads
+/* ---- NULL with length 0. The library accepts no NULL for what it reads, even if the length is 0. So each call above that reads
  * bytes, or the lists of a profile, is an inline function over one of the library's, whose name ends in `_nonnull`: if the length
- * is 0, it passes the address of something in the place of what came. Other languages call those, and pass a valid address too. */
+ * is 0, it passes another, valid address. Other languages call those functions, and pass a valid address, too. */
 
 /* The address of an array, or a valid dummy address if `count` is 0; never NULL. */
 static inline const void *felosumay_address(const void *things, uint64_t count) {
@@ -828,7 +825,7 @@ static inline felosumay_result felosumay_search_hear(felosumay_search *search, c
     return felosumay_search_hear_nonnull(search, felosumay_bytes(bytes, length), length);
 }
 
-/* ---- names and the version. They last as long as the program, and end with a NUL; what has no name is "unknown". The calls
+/* ---- names and the version. They live as long as the program, and end with a NUL; what has no name is "unknown". The calls
  * `felosumay_tell_..` are for languages without inline functions: `letters` points to any byte before them. */
 
 typedef struct {
@@ -841,28 +838,28 @@ void felosumay_tell_parameter(uint16_t pid, felosumay_name *name);
 void felosumay_tell_reason(uint16_t reason, felosumay_name *name);
 void felosumay_tell_version(felosumay_name *name);
 
-/* What a call answered, as "NO_ROOM". */
+/* The name of a result, such as "NO_ROOM". */
 static inline const char *felosumay_status_name(felosumay_result status) {
     felosumay_name name = {"", 1};
     felosumay_tell_status(status, &name);
     return name.letters;
 }
 
-/* A parameter by its PID, as "DMX_START_ADDRESS" (table A-3). */
+/* The name of a parameter, such as "DMX_START_ADDRESS" (table A-3). */
 static inline const char *felosumay_parameter_name(uint16_t pid) {
     felosumay_name name = {"", 1};
     felosumay_tell_parameter(pid, &name);
     return name.letters;
 }
 
-/* The reason of a NACK, as "data out of range" (table A-17). */
+/* The words of a NACK reason, such as "data out of range" (table A-17). */
 static inline const char *felosumay_reason_name(uint16_t reason) {
     felosumay_name name = {"", 1};
     felosumay_tell_reason(reason, &name);
     return name.letters;
 }
 
-/* The version of the library, as FELOSUMAY_VERSION is that of the header. */
+/* The version of the library; FELOSUMAY_VERSION is that of the header. */
 static inline const char *felosumay_version(void) {
     felosumay_name name = {"", 1};
     felosumay_tell_version(&name);
@@ -871,21 +868,21 @@ static inline const char *felosumay_version(void) {
 
 /* ---- the heap: what the library calls for memory. libfelosumay_heap.a has the three functions over malloc, realloc and free
  * (c/heap.c). A program that takes memory from a pool defines them itself, and doesn't link that library. An alignment is 1, 2,
- * 4, 8 or 16, and a size below 2^63, also where no block is as large. */
+ * 4, 8 or 16, and a size is below 2^63, even if no block can be so large. */
 
 typedef struct {
     uint8_t there; /* 1 if there is memory, else 0 */
     FELOSUMAY_WIDE void *at; /* where the block begins; never NULL, even if there is none */
 } felosumay_block;
 
-/* Gets a block of `size` bytes. */
+/* Allocates a block of `size` bytes. */
 felosumay_block rattle_alloc(uint64_t size, uint64_t alignment);
 
-/* Makes a block one of `size` bytes, here or elsewhere, whose first `kept` bytes are as they were. If there is no memory for
- * it, the block stays as it was. */
+/* Resizes a block to `size` bytes, in place or elsewhere; its first `kept` bytes stay the same. If there is no memory for that, the block
+ * stays as it was. */
 felosumay_block rattle_realloc(void *at, uint64_t kept, uint64_t size, uint64_t alignment);
 
-/* Gives a block back. */
+/* Frees a block. */
 void rattle_dealloc(void *at);
 
 /* ---- the layout of what crosses: the library has the same numbers on each target */

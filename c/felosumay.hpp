@@ -1,6 +1,6 @@
-// felosumay.h for C++17 and later: handles that free themselves, and bytes as spans. Each member does what the call of its name does, and
-// answers with what that answers; none throws and none takes memory beside the library's. A handle moves, and isn't copied: what it
-// was moved from holds nothing, as {} does.
+// felosumay.h for C++17 and later: handles that free themselves, and bytes as spans. Each member makes the call of its name, and returns
+// its result; none throws, and none takes memory besides the library's. A handle can be moved, not copied: what it was moved from holds
+// nothing, like {}.
 #ifndef FELOSUMAY_HPP
 #define FELOSUMAY_HPP
 #include "felosumay.h"
@@ -16,7 +16,8 @@ namespace felosumay {
 
 using result = felosumay_result;
 
-// What a call answered, as "NO_ROOM"; a parameter, as "DMX_START_ADDRESS"; a reason, as "data out of range". Else "unknown".
+// The name of a result, such as "NO_ROOM"; of a parameter, such as "DMX_START_ADDRESS"; the words of a reason, such as "data out of
+// range". Else "unknown".
 inline std::string_view status_name(result status) noexcept { return felosumay_status_name(status); }
 inline std::string_view parameter_name(std::uint16_t pid) noexcept { return felosumay_parameter_name(pid); }
 inline std::string_view reason_name(std::uint16_t reason) noexcept { return felosumay_reason_name(reason); }
@@ -26,7 +27,7 @@ struct uid {
     std::uint32_t device;
 };
 
-// Bytes of somebody else's: an array, a std::vector, a std::span or any other range of uint8_t with data() and size().
+// Bytes that it doesn't own: an array, a std::vector, a std::span or any other range of uint8_t with data() and size().
 class bytes {
 public:
     constexpr bytes() noexcept = default;
@@ -45,7 +46,7 @@ private:
     std::size_t size_ = 0;
 };
 
-// Bytes at the front of an array that has room for as many as there can be.
+// Bytes at the front of an array with room for the most that there can be.
 template <std::size_t Room> struct buffer {
     std::array<std::uint8_t, Room> room{};
     std::uint64_t count = 0;
@@ -62,10 +63,10 @@ inline result read_reply(bytes heard, felosumay_reply &reply) noexcept {
     return felosumay_reply_read(heard.data(), heard.size(), &reply);
 }
 
-// What bytes of a frame break first, FELOSUMAY_FRAME_.., or FELOSUMAY_IS_FRAME.
+// The first test of a frame that the bytes fail, FELOSUMAY_FRAME_.., or FELOSUMAY_IS_FRAME.
 inline std::uint8_t frame_fault(bytes heard) noexcept { return felosumay_frame_fault(heard.data(), heard.size()); }
 
-// Which rule a profile breaks, FELOSUMAY_FAULT_..: the first of them, or FELOSUMAY_NO_FAULT.
+// The first rule that a profile breaks, FELOSUMAY_FAULT_.., or FELOSUMAY_NO_FAULT.
 inline std::uint8_t profile_fault(const felosumay_profile &profile) noexcept { return felosumay_profile_fault(&profile); }
 
 // What an area of flash holds; which of two areas has the newest image; and which one is erased for the next image, with the header to
@@ -82,8 +83,8 @@ inline result next_image(std::uint32_t key, const felosumay_image &first, const 
     return felosumay_images_next(key, &first, &second, payload.data(), payload.size(), header.data(), &area);
 }
 
-// Lend a profile the parameters of the maker's own, the PIDs of those that the fixture hasn't, and the names of choices: of an array, a
-// std::vector or any other range with data and size, which has to stay as it is until the responder is made.
+// Lend a profile the parameters of the maker's own, the PIDs of those that the fixture lacks, and the names of choices: from an array, a
+// std::vector or any other range with data and size, which has to stay the same until the responder is made.
 template <class Parameters> void lend_parameters(felosumay_profile &profile, const Parameters &parameters) noexcept {
     profile.parameters = std::data(parameters);
     profile.parameter_count = std::size(parameters);
@@ -97,14 +98,14 @@ template <class Choices> void lend_choices(felosumay_profile &profile, const Cho
     profile.choice_count = std::size(choices);
 }
 
-// Cuts packets and levels out of what a UART hears. It owns nothing, and may be copied.
+// Extracts packets and levels from what a UART receives. It owns nothing, and may be copied.
 class receiver {
 public:
     void hear_break() noexcept { felosumay_receiver_break(&state_); }
     void hear_error() noexcept { felosumay_receiver_error(&state_); }
-    // What has come with a byte, FELOSUMAY_RECEIVED_..: of a packet `number` is how many bytes it has, and of a level which slot it is of.
+    // What a byte completes, FELOSUMAY_RECEIVED_..: `number` is how many bytes a packet has, or the slot of a level.
     std::uint8_t hear(std::uint8_t byte, std::uint16_t &number) noexcept { return felosumay_receiver_byte(&state_, byte, &number); }
-    // The bytes of the packet that `hear` has told, of which there are so many. They stay until the next call.
+    // The bytes of the packet that `hear` reported, `number` of them. They stay until the next call.
     bytes packet(std::uint16_t number) const noexcept { return bytes(state_.packet, number); }
 
 private:
@@ -184,7 +185,7 @@ public:
         return felosumay_responder_save(get(), image, size, &count);
     }
     [[nodiscard]] result restore(bytes image) noexcept { return felosumay_responder_restore(get(), image.data(), image.size()); }
-    // `reason` is that of the NACK if it is REFUSED.
+    // If it is REFUSED, `reason` is that of the NACK.
     [[nodiscard]] result get_value(std::uint16_t sub, std::uint16_t pid, bytes argument, value &read,
                                    std::uint16_t &reason) const noexcept {
         return felosumay_responder_get(get(), sub, pid, argument.data(), argument.size(), read.room.data(), &read.count, &reason);

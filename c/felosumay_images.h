@@ -1,11 +1,12 @@
-/* Saved values in two areas of flash, of which a save replaces the older image: if power fails at any moment, the old values are there or
- * the new, whole. These functions are C over `felosumay_images_read`, `felosumay_images_newest` and `felosumay_images_next` of felosumay.h,
- * and over three functions of the program's; nothing else is called, and nothing is kept but what the flash holds. docs/SAVED.md says what
- * is proved, what this file does unproved, and what is assumed of the flash. firmware/values.c is a program that uses it.
+/* Saved values in two areas of flash. A save replaces the older image, so if power fails at any moment, either the old values are there
+ * or the new ones, whole. These functions are C over `felosumay_images_read`, `felosumay_images_newest` and `felosumay_images_next` of
+ * felosumay.h, and over three functions of the program's; nothing else is called, and nothing is kept except what the flash holds.
+ * docs/SAVED.md says what is proved, what this file does unproved, and what is assumed of the flash. firmware/values.c is a program that
+ * uses it.
  *
- * A payload is any bytes, such as what `felosumay_responder_save` writes. `key` is a number of the program's, which says what the payload
- * is of: images of another key count as none. `buffer` has `size` bytes, which is FELOSUMAY_IMAGE_BYTES of the longest payload, and the
- * same in each call. What it holds is overwritten. */
+ * A payload is any bytes, such as what `felosumay_responder_save` writes. `key` is a number of the program's, which says what kind of
+ * payload it is: images with another key count as none. `buffer` has `size` bytes, which is FELOSUMAY_IMAGE_BYTES of the longest payload,
+ * and the same in each call. What it holds is overwritten. */
 #ifndef FELOSUMAY_IMAGES_H
 #define FELOSUMAY_IMAGES_H
 #include "felosumay.h"
@@ -71,7 +72,7 @@ static inline felosumay_result felosumay_images_load(const felosumay_areas *area
 }
 
 /* Saves a payload, which lies outside the buffer: its image takes the place of the older one, and is what the buffer holds when it is DONE.
- * SHORT_IMAGE if the buffer hasn't room for the image, and TOO_LONG if the payload has more than 65535 bytes: nothing is erased or written
+ * SHORT_IMAGE if the buffer has no room for the image, and TOO_LONG if the payload has more than 65535 bytes: nothing is erased or written
  * then. FLASH_FAILED: what is loaded is the old payload or the new, whole; save again. */
 static inline felosumay_result felosumay_images_save(const felosumay_areas *areas, uint32_t key, const uint8_t *payload, uint64_t length,
                                                      uint8_t *buffer, uint64_t size) {

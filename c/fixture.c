@@ -1,5 +1,5 @@
-/* A fixture's program: it sets its values, a responder hears what comes from the bus, its slow commands end later, it counts and warns,
- * a person changes something at its menu, and it is switched off and on again. A collector makes the requests here, in place of a bus.
+/* A fixture's program: it sets its values, a responder receives what comes from the bus, slow commands end later, it counts and warns, a
+ * person changes something at its menu, and it is switched off and on again. Here a collector makes the requests, in place of a bus.
  * docs/C.md reads it part by part. */
 #include "felosumay.h"
 #include <stdio.h>
@@ -7,7 +7,7 @@
 
 enum { MAKER = 0x7FF0, FIXTURE = 1, CONSOLE = 2, QUEUE_SIZE = 2, ENTRIES = 2, IMAGE_BYTES = 128 };
 
-/* What the fixture is. It may lie in flash. */
+/* What the fixture is. It may be in flash. */
 static const felosumay_profile PROFILE = {
     /* the root: software, model and category, start address, texts, personalities */
     {0x00000100, 0x0011, 0x0102, 1, FELOSUMAY_TEXT("Moving head"), FELOSUMAY_TEXT("Example"), FELOSUMAY_TEXT("Left of stage"),
@@ -26,7 +26,7 @@ static const felosumay_profile PROFILE = {
     {{0x8001, FELOSUMAY_TEXT("Lamp failed to strike")},
      {0x8002, FELOSUMAY_TEXT("Fan %d stands still")},
      {0x8003, FELOSUMAY_TEXT("Overheated: %d degrees C")}},
-    /* no more slots, no parameters of the maker's own, and none that are left out: c/own.c has some */
+    /* no more slots, no parameters of the maker's own, and no omitted ones: c/own.c has some */
     0, NULL, 0, NULL, 0,
     /* the usual times and workers of slow commands */
     {0, 0, 0, 0},
@@ -84,7 +84,7 @@ static felosumay_result set_up(felosumay_responder *fixture) {
     return status == FELOSUMAY_DONE ? felosumay_responder_place(fixture, 0, 0x0082, label, 11) : status;
 }
 
-/* What can't be placed: there is no sub-device, a model's description isn't stored, an address has 2 bytes and is 512 at most. */
+/* What can't be placed: there is no sub-device, a model's description isn't stored, an address has 2 bytes and is at most 512. */
 static void misplace(felosumay_responder *fixture) {
     const uint8_t start[3] = {0x02, 0x01, 0x00};
     printf("start 513 of sub-device 1: %u\n", felosumay_responder_place(fixture, 1, 0x00F0, start, 2));
@@ -112,7 +112,7 @@ static felosumay_result warn(felosumay_collector *bus, felosumay_responder *fixt
     return status == FELOSUMAY_DONE ? fetch(bus, fixture) : status;
 }
 
-/* A lamp is struck by a slow command: the reports that don't fit are refused, and the right one arrives once. */
+/* A slow command strikes the lamp: reports that don't fit are rejected, and the right one arrives once. */
 static void strike(felosumay_collector *bus, felosumay_responder *fixture) {
     const uint8_t on = 3;
     const felosumay_outcome reading = {FELOSUMAY_JOB_READING, 0, 21, 0, 0, 0}, done = {FELOSUMAY_JOB_DONE, 0, 0, 0, 0, 0},
@@ -162,7 +162,7 @@ static felosumay_result change(felosumay_collector *bus, felosumay_responder *fi
     return status;
 }
 
-/* A person sets the start address at the menu. If there is no room for the message, it is set with none. */
+/* A person sets the start address at the menu. If there is no room for the message, it is set without one. */
 static felosumay_result set_start(felosumay_responder *fixture, uint16_t start) {
     const uint8_t bytes[2] = {(uint8_t)(start >> 8), (uint8_t)start};
     felosumay_result status = felosumay_responder_change_start(fixture, start);
@@ -172,7 +172,7 @@ static felosumay_result set_start(felosumay_responder *fixture, uint16_t start) 
     return status;
 }
 
-/* Discovery's answer is a reply as any other: it has 24 bytes, and is no frame. */
+/* The answer to discovery is a reply like any other: it has 24 bytes, and isn't a frame. */
 static void discover(felosumay_collector *bus, felosumay_responder *fixture) {
     const uint8_t branch[12] = {0, 0, 0, 0, 0, 0, 0xFF, 0xFF, 0xFF, 0xFF, 0xFF, 0xFE};
     felosumay_stepped stepped = ask(bus, fixture, 0x0001, FELOSUMAY_DISCOVERY, branch, 12);
@@ -192,7 +192,7 @@ static void read(felosumay_responder *fixture) {
     printf("get of the queue: %u\n", felosumay_responder_get(fixture, 0, 0x0020, &advisory, 1, value, &count, &reason));
 }
 
-/* The firmware looks at what a request changed, and at nothing if it changed nothing. */
+/* The firmware looks at what a request changed, if it changed anything. */
 static void look(felosumay_stepped stepped) {
     if (stepped.changed == FELOSUMAY_ONE_CHANGED && stepped.changed_parameter == 0x1000)
         printf("device %u is to identify itself, or to stop\n", stepped.changed_sub_device);
@@ -211,7 +211,7 @@ static void identify(felosumay_collector *bus, felosumay_responder *fixture) {
     look(ask(bus, fixture, 0x0090, FELOSUMAY_SET, &on, 0));
 }
 
-/* What no responder is made with. The old one stays. */
+/* What no responder can be made with. The old one stays. */
 static void refuse(felosumay_responder *fixture) {
     printf("a UID of all: %u\n", felosumay_responder_new(fixture, MAKER, 0xFFFFFFFF, &PROFILE, QUEUE_SIZE));
     printf("no queue: %u\n", felosumay_responder_new(fixture, MAKER, FIXTURE, &PROFILE, 0));
@@ -220,7 +220,7 @@ static void refuse(felosumay_responder *fixture) {
     printf("513 cells: %u\n", felosumay_responder_demo(fixture, MAKER, FIXTURE, 513, QUEUE_SIZE));
 }
 
-/* Images that aren't restored: one that is cut, one of which a byte is another, and one of a fixture with a sub-device more. */
+/* Images that aren't restored: a truncated one, one with an altered byte, and one of a fixture with one more sub-device. */
 static void misread(felosumay_responder *fixture, const uint8_t *image, uint64_t count) {
     uint8_t other[IMAGE_BYTES];
     memcpy(other, image, count);

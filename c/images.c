@@ -1,5 +1,6 @@
 /* Two images of saved values in two areas of flash (felosumay_images.h). The flash is an array here, which loses power at any byte: after
- * each save that is cut off so, the old payload is loaded or the new, whole. It prints what differs, and then ends with status 1. */
+ * each save that is interrupted so, either the old payload is loaded or the new one, whole. It prints what differs, and then ends with
+ * status 1. */
 #include "felosumay_images.h"
 #include <stdio.h>
 #include <string.h>

@@ -23,7 +23,7 @@ static const felosumay_parameter PARAMETERS[] = {
      0, {0, {0}}, FELOSUMAY_TEXT("Scenes"), FELOSUMAY_NO_FIELDS},
 };
 
-/* What the lock states from 1 on are called. */
+/* The names of the lock states from 1 on. */
 static const felosumay_choice NAMES[] = {{0, FELOSUMAY_PID_LOCK_STATE_DESCRIPTION, 1, FELOSUMAY_TEXT("Address locked")}};
 
 static const felosumay_profile PROFILE = {
@@ -83,7 +83,7 @@ static void look(const felosumay_responder *fixture, const felosumay_stepped *st
     }
 }
 
-/* COMMS_STATUS counts frames that are cut, of another length than they say, and with a wrong checksum: 2 bytes for each. */
+/* COMMS_STATUS counts frames that are truncated, have another length than they say, or have a wrong checksum: 2 bytes for each count. */
 static felosumay_result count_fault(felosumay_responder *fixture, uint8_t fault) {
     uint8_t counts[FELOSUMAY_VALUE_BYTES];
     uint64_t count = 0, at;
@@ -98,7 +98,7 @@ static felosumay_result count_fault(felosumay_responder *fixture, uint8_t fault)
         return FELOSUMAY_DONE;
     felosumay_result status = felosumay_responder_get(fixture, 0, FELOSUMAY_PID_COMMS_STATUS, NULL, 0, counts, &count, &reason);
     if (status != FELOSUMAY_DONE || (counts[at] == 0xFF && counts[at + 1] == 0xFF))
-        return status; /* it counts no further than it can say */
+        return status; /* it counts no further than its 2 bytes */
     if (++counts[at + 1] == 0)
         counts[at]++;
     return felosumay_responder_place(fixture, 0, FELOSUMAY_PID_COMMS_STATUS, counts, count);
@@ -122,7 +122,7 @@ static void ask(felosumay_collector *bus, felosumay_responder *fixture, uint16_t
     hear(fixture, request, make(bus, pid, command_class, load, length, request));
 }
 
-/* A lock state is set with the PIN, and refuses the SETs of what it locks; the firmware changes that all the same. */
+/* A lock state is set with the PIN. SETs of what it locks are rejected; the firmware can still change that. */
 static void lock(felosumay_collector *bus, felosumay_responder *fixture) {
     const uint8_t first = 1, wrong[3] = {0x04, 0xD3, 1}, on[3] = {0x04, 0xD2, 1}, off[3] = {0x04, 0xD2, 0};
     const uint8_t address[2] = {0x00, 0x07}, menu[2] = {0x00, 0x05}, no_pin[4] = {0x27, 0x10, 0x04, 0xD2};
@@ -138,7 +138,7 @@ static void lock(felosumay_collector *bus, felosumay_responder *fixture) {
     ask(bus, fixture, FELOSUMAY_PID_DMX_START_ADDRESS, FELOSUMAY_SET, address, 2);
 }
 
-/* Orders have no GET. Each that is accepted is told, also one as the last. */
+/* Orders have no GET. Each accepted one is reported, even one equal to the last. */
 static void order(felosumay_collector *bus, felosumay_responder *fixture) {
     const uint8_t cold = 0xFF, neither = 0x02, scene[8] = {0, 2, 0, 10, 0, 20, 0, 0};
     ask(bus, fixture, FELOSUMAY_PID_RESET_DEVICE, FELOSUMAY_SET, &cold, 1);
@@ -158,7 +158,7 @@ static void scenes(felosumay_collector *bus, felosumay_responder *fixture) {
     ask(bus, fixture, FELOSUMAY_PID_PRESET_STATUS, FELOSUMAY_GET, second, 2);
 }
 
-/* A controller sets the clock, and reads and clears the counts of frames that came cut, too long and altered. */
+/* A controller sets the clock, and reads and clears the counts of frames that were truncated, too long and altered. */
 static void clock_and_counts(felosumay_collector *bus, felosumay_responder *fixture) {
     const uint8_t noon[7] = {0x07, 0xEA, 11, 27, 12, 0, 0};
     uint8_t request[FELOSUMAY_FRAME_BYTES];

@@ -23,7 +23,7 @@ static felosumay_result make(felosumay_responder *responder, uint8_t *at, uint64
     return felosumay_responder_new_in(at, bytes, responder, MAKER, FIXTURE, &profile, queue_size, entries, 0);
 }
 
-/* A responder of this size has room in the memory that is said, fills it, and hasn't room in a byte less. It answers. */
+/* A responder of this size fits into the stated memory, fills it, and doesn't fit into a byte less. It answers. */
 static void try_size(uint16_t queue_size, uint16_t entries, uint16_t sub_devices) {
     const uint64_t bytes = FELOSUMAY_RESPONDER_BYTES(queue_size, entries, sub_devices);
     felosumay_responder responder = {0};

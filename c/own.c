@@ -1,11 +1,11 @@
-/* A fixture with parameters of its maker's own: an LED wash of 40 slots has a colour temperature, a mode of its fan and a counter, and
- * neither lamps nor pan and tilt. own.txt has what it prints: the bytes of the replies are worked out by hand from E1.20.
+/* A fixture with parameters of its maker's own: an LED wash of 40 slots has a colour temperature, a fan mode and a counter, and neither
+ * lamps nor pan and tilt. own.txt has what it prints: the bytes of the replies are worked out by hand from E1.20.
  * docs/C.md reads it part by part. */
 #include "asked.h"
 
 enum { COLOUR_TEMPERATURE = 0x8000, FAN_MODE = 0x8001, FLASHES = 0x8002 };
 
-/* By ascending PID. The unit of E1.20 for kelvin is none. FACTORY_DEFAULTS sets back the settings, and leaves the counter. */
+/* By ascending PID. E1.20 has no unit for kelvin. FACTORY_DEFAULTS resets the settings, and leaves the counter. */
 static const felosumay_parameter PARAMETERS[] = {
     {2700, 6500, COLOUR_TEMPERATURE, FELOSUMAY_DS_UNSIGNED_WORD, FELOSUMAY_CC_GET_SET, 0, FELOSUMAY_UNITS_NONE,
      FELOSUMAY_PREFIX_NONE, 1, {2, {0x0C, 0x80}}, FELOSUMAY_TEXT("Colour temperature"), FELOSUMAY_NO_FIELDS},
@@ -15,7 +15,7 @@ static const felosumay_parameter PARAMETERS[] = {
      {4, {0x00, 0x00, 0x00, 0x00}}, FELOSUMAY_TEXT("Flashes"), FELOSUMAY_NO_FIELDS},
 };
 
-/* What an LED wash hasn't. */
+/* What an LED wash lacks. */
 static const uint16_t WITHOUT[] = {
     FELOSUMAY_PID_LAMP_HOURS,   FELOSUMAY_PID_LAMP_STRIKES, FELOSUMAY_PID_LAMP_STATE,    FELOSUMAY_PID_LAMP_ON_MODE,
     FELOSUMAY_PID_PAN_INVERT,   FELOSUMAY_PID_TILT_INVERT,  FELOSUMAY_PID_PAN_TILT_SWAP,
@@ -37,7 +37,7 @@ static const felosumay_profile PROFILE = {
     {{0, 0, 0, 0, 0, 0, 0, 0, {0, {0}}, 0}},
     {{0, {0, {0}}}},
     {{0, {0, {0}}}},
-    /* 39 slots of pixels, which nothing describes; its own parameters, and what it hasn't */
+    /* 39 slots of pixels, which nothing describes; its own parameters, and those that it lacks */
     39, PARAMETERS, sizeof PARAMETERS / sizeof *PARAMETERS, WITHOUT, sizeof WITHOUT / sizeof *WITHOUT,
     /* the usual times and workers of slow commands */
     {0, 0, 0, 0},
@@ -68,7 +68,7 @@ static void explore(felosumay_collector *bus, felosumay_responder *fixture) {
     ask(bus, fixture, FELOSUMAY_PID_DMX_PERSONALITY_DESCRIPTION, FELOSUMAY_GET, &first, 1);
 }
 
-/* A SET of the colour temperature: firmware sees it as any other. A value beyond the greatest is refused, and so is a SET of the
+/* A SET of the colour temperature: the firmware sees it like any other. A value beyond the greatest is rejected, and so is a SET of the
  * counter. */
 static void set(felosumay_collector *bus, felosumay_responder *fixture) {
     const uint8_t daylight[2] = {0x15, 0xE0}, beyond[2] = {0x19, 0x65}, none[4] = {0x00, 0x00, 0x00, 0x00};
@@ -93,7 +93,7 @@ static felosumay_result count_flash(felosumay_responder *fixture) {
     return felosumay_responder_place(fixture, 0, FLASHES, flashes, count);
 }
 
-/* FACTORY_DEFAULTS says that not all is as it was, sets the settings back, and then says that it is. */
+/* FACTORY_DEFAULTS says that something has changed, resets the settings, and then says that nothing differs. */
 static void set_back(felosumay_collector *bus, felosumay_responder *fixture) {
     ask(bus, fixture, FELOSUMAY_PID_FACTORY_DEFAULTS, FELOSUMAY_GET, NULL, 0);
     ask(bus, fixture, FELOSUMAY_PID_FACTORY_DEFAULTS, FELOSUMAY_SET, NULL, 0);

@@ -1,9 +1,9 @@
-/* A fixture behind a UART: what the UART tells goes to a receiver, and each packet of it to the responder. The signals of the line stand
- * in an array here; in a firmware an interrupt hands them in. docs/FIXTURES.md shows such a loop. */
+/* A fixture behind a UART: what the UART reports goes to a receiver, and each packet in it to the responder. Here the signals of the line
+ * are an array; in a firmware an interrupt passes them in. docs/FIXTURES.md shows such a loop. */
 #include "felosumay.h"
 #include <stdio.h>
 
-/* What a UART tells: a byte, or one of these. */
+/* What a UART reports: a byte, or one of these. */
 enum { LINE_BREAK = 256, LINE_ERROR = 257 };
 
 #define REQUEST 0xCC, 0x01, 0x18, 0x7F, 0xF0, 0, 0, 0, 1, 0x7F, 0xF0, 0, 0, 0, 2, 0, 1, 0, 0, 0, 0x20, 0x10, 0, 0
@@ -19,7 +19,7 @@ static const uint16_t line[] = {
     LINE_BREAK, REQUEST, 0x03, 0xF7, 0x55, 0xCC,
     /* The same with another checksum. */
     LINE_BREAK, REQUEST, 0x03, 0xF8,
-    /* The same, and one byte came spoilt. */
+    /* The same, with an error at one byte. */
     LINE_BREAK, 0xCC, 0x01, 0x18, LINE_ERROR, 0x7F, 0xF0, REQUEST, 0x03, 0xF7,
     /* The same, and a break within it. */
     LINE_BREAK, 0xCC, 0x01, 0x18, 0x7F, LINE_BREAK, REQUEST, 0x03, 0xF7,
@@ -32,7 +32,7 @@ static void print_bytes(const char *what, const uint8_t *bytes, uint64_t count) 
     printf("\n");
 }
 
-/* The responder hears a packet, and the driver of the line is on only while a reply is sent. */
+/* The responder receives a packet, and the driver of the line is on only while a reply is sent. */
 static felosumay_result hear_packet(felosumay_responder *fixture, const felosumay_receiver *receiver, uint16_t count) {
     uint8_t reply[FELOSUMAY_FRAME_BYTES];
     felosumay_stepped stepped;
@@ -54,7 +54,7 @@ static felosumay_result hear_byte(felosumay_responder *fixture, felosumay_receiv
     case FELOSUMAY_RECEIVED_LEVEL:
         printf("slot %u: %u\n", (unsigned)number, (unsigned)byte);
         break;
-    default: /* nothing but the byte has come */
+    default: /* the byte completes nothing */
         break;
     }
     return FELOSUMAY_DONE;

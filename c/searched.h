@@ -30,7 +30,7 @@ static uint64_t answer_of(felosumay_responder *fixtures, int most, const uint8_t
     return length;
 }
 
-/* Runs a search to its end: each request that it tells is sent, and it hears what came. */
+/* Runs a search to its end: sends each of its requests, and passes in what came. */
 static felosumay_result discover(felosumay_search *search, line *line) {
     uint8_t request[FELOSUMAY_FRAME_BYTES], heard[FELOSUMAY_FRAME_BYTES];
     uint64_t count = 0;

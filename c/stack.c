@@ -75,7 +75,7 @@ static int is_over(const char *name, void (*calls)(void), size_t most) {
     return result != FELOSUMAY_DONE || touched > most;
 }
 
-/* A parameter that has so many things to choose from, and the one that tells their names. */
+/* A choice of so many items, and the parameter with their names. */
 static void add_choice(felosumay_parameter *parameter, uint16_t pid, uint8_t kind, uint8_t low, uint8_t high) {
     for (int i = 0; i < 2; i++)
         parameter[i].size = parameter[i].field_count = parameter[i].start.count = 0;

@@ -1,4 +1,4 @@
-/* A whole fixture: a responder without a heap that hears the line, does its slow commands in their time, keeps its values over power-off,
+/* A whole fixture: a responder without a heap that listens to the line, does slow commands in their time, keeps its values over power-off,
  * and has a menu. README.md walks through it. */
 #include "fixture.h"
 #include "board.h"
@@ -25,7 +25,7 @@ static void look(const felosumay_stepped *stepped) {
         tell_identity();
 }
 
-/* The jobs that have ended are reported first, so that the reply tells of them. */
+/* Jobs that have ended are reported first, so that the reply counts their messages. */
 uint16_t fixture_hear(const uint8_t *packet, uint16_t count, uint8_t reply[FELOSUMAY_FRAME_BYTES]) {
     felosumay_stepped stepped;
     jobs_report();

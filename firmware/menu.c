@@ -29,7 +29,7 @@ static uint32_t number_of(const char *text) {
     return number;
 }
 
-/* A change that the console is told of; where there is no room for its message, it is made all the same, with none. */
+/* A change that queues a message for the console, or is placed without one if there is no room. */
 static felosumay_result changed(felosumay_result told, uint16_t pid, const uint8_t *data, uint64_t count) {
     values_changed();
     return told == FELOSUMAY_NO_ROOM ? felosumay_responder_place(&fixture, 0, pid, data, count) : told;
@@ -56,7 +56,7 @@ static felosumay_result set_label(const char *text) {
     return changed(felosumay_responder_change_label(&fixture, label, strlen(text)), FELOSUMAY_PID_DEVICE_LABEL, label, strlen(text));
 }
 
-/* The fixture warns by itself, as where a fan stands still. */
+/* The fixture reports a problem by itself, such as a blocked fan. */
 static felosumay_result warn(const char *text) {
     uint8_t kept = 0;
     return felosumay_responder_note(&fixture, 0, FELOSUMAY_STATUS_WARNING, TEST_FAILED, (uint16_t)number_of(text), 0, &kept);
@@ -130,7 +130,7 @@ static felosumay_result help(const char *text) {
     return FELOSUMAY_DONE;
 }
 
-/* A whole line: a word, and behind a blank what the order is about. */
+/* A whole line: a word, and after a space what the order is about. */
 static void carry_out(void) {
     char *const blank = strchr(line, ' ');
     const char *const about = blank ? blank + 1 : "";

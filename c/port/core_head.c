@@ -74,7 +74,20 @@ HELPER uint64_t address(const uint8_t *at) {
     return (uintptr_t)at;
 }
 
-#define PLACE(constant) ((uint8_t *)(uintptr_t)(constant))
+#define PLACE(constant) ((uint8_t *)(uintptr_t)&(constant))
+
+/* A pointer in a constant: it has 8 bytes, too, of which its address may take the first four. */
+typedef struct {
+    const uint8_t *at;
+#if UINTPTR_MAX == 0xFFFFFFFF
+    uint32_t above;
+#endif
+} constant_pointer;
+#if UINTPTR_MAX == 0xFFFFFFFF
+#define POINTS(constant, behind) {(const uint8_t *)&(constant) + (behind), 0}
+#else
+#define POINTS(constant, behind) {(const uint8_t *)&(constant) + (behind)}
+#endif
 
 HELPER uint16_t swap16(uint16_t number) {
     return (uint16_t)(number << 8 | number >> 8);

@@ -72,7 +72,8 @@ Bytes BranchAnswer(const UID &uid) {
 // One responder, with the mute flag that OLA's ports keep for it.
 class Device {
  public:
-  Device(const UID &uid, RDMControllerInterface *responder) : uid_(uid), responder_(responder) {}
+  Device(const UID &uid, RDMControllerInterface *responder, bool has_sub_devices)
+      : uid_(uid), responder_(responder), has_sub_devices_(has_sub_devices) {}
 
   const UID &uid() const { return uid_; }
 
@@ -83,11 +84,11 @@ class Device {
     return request.DestinationUID().IsBroadcast() ? Bytes() : reply_;
   }
 
-  // The reply to a mute or an un-mute: its control field says nothing special (table 7-3).
+  // The reply to a mute or an un-mute: its control field says whether there are sub-devices (table 7-3).
   Bytes Mute(const RDMRequest &request, bool muted) {
     muted_ = muted;
     if (request.DestinationUID().IsBroadcast()) return Bytes();
-    const uint8_t control[2] = {0, 0};
+    const uint8_t control[2] = {0, static_cast<uint8_t>(has_sub_devices_ ? 2 : 0)};
     ola::rdm::RDMDiscoveryResponse response(uid_, request.SourceUID(), request.TransactionNumber(), ola::rdm::RDM_ACK, 0, 0,
                                             request.ParamId(), control, sizeof(control));
     return Packed(response);
@@ -108,6 +109,7 @@ class Device {
 
   const UID uid_;
   std::unique_ptr<RDMControllerInterface> responder_;
+  const bool has_sub_devices_;
   bool muted_ = false;
   Bytes reply_;
 };
@@ -116,7 +118,7 @@ class Device {
 class Line {
  public:
   Line() {
-    Join(new ola::rdm::DimmerResponder(Next(), 4));
+    Join(new ola::rdm::DimmerResponder(Next(), 4), true);
     Join(new ola::rdm::MovingLightResponder(Next()));
     Join(new ola::rdm::SensorResponder(Next()));
     Join(new ola::rdm::AckTimerResponder(Next()));
@@ -143,12 +145,14 @@ class Line {
  private:
   UID Next() const { return UID(kMaker, static_cast<uint32_t>(0xFFFFFF00 + devices_.size())); }
 
-  void Join(RDMControllerInterface *responder) { devices_.emplace_back(new Device(Next(), responder)); }
+  void Join(RDMControllerInterface *responder, bool has_sub_devices = false) {
+    devices_.emplace_back(new Device(Next(), responder, has_sub_devices));
+  }
 
   Bytes Discover(const RDMRequest &request) {
     if (request.ParamId() == kUniqueBranch) return Branch(request);
     Bytes heard;
-    if (request.ParamId() != kMute && request.ParamId() != kUnMute) return heard;
+    if ((request.ParamId() != kMute && request.ParamId() != kUnMute) || request.ParamDataSize() != 0) return heard;
     for (const auto &device : devices_) {
       if (!request.DestinationUID().DirectedToUID(device->uid())) continue;
       const Bytes reply = device->Mute(request, request.ParamId() == kMute);

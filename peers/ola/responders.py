@@ -23,6 +23,9 @@ PROGRAM = sys.argv[1]
 HERE = pathlib.Path(__file__).resolve().parent
 TOP = HERE.parents[1]
 TABLES = HERE / "responders"
+# What each device is asked to see whether it keeps the reply rules, and which rules it breaks.
+PROBE, JUDGED = HERE / "probe.script", TABLES / "judged.txt"
+WRONG = re.compile(r"^([0-9]+): WRONG: (.*)$", re.MULTILINE)
 # The parameters that each device has, whether or not it lists them (E1.20 table A-3).
 REQUIRED = ("0050", "0060", "00C0", "1000")
 # Those that `collect` alone asks for.
@@ -241,6 +244,31 @@ def check_described(console, devices, room):
             console.wrong += other.wrong
 
 
+def judged():
+    """What `check` finds wrong in the replies of each device, as the file says."""
+    found = {}
+    for line in JUDGED.read_text(encoding="utf-8").splitlines():
+        if DEVICE.match(line):
+            found[line] = []
+        elif line.startswith("    "):
+            found[list(found)[-1]].append(line.strip())
+    return found
+
+
+def check_judged(console, devices, room):
+    """What `check` finds wrong in the replies of each device to the probe, beside the file that `describe` prints of it."""
+    wanted = judged()
+    for number, device in enumerate(devices):
+        _, printed, _, _ = console.run("play", str(PROBE), "--uid", device.uid)
+        trace = room / f"probed{number}.trace"
+        trace.write_text(printed, encoding="utf-8")
+        file = room / f"described{number}.toml"
+        ran = subprocess.run([PROGRAM, "check", trace, "--fixture", file], stdin=subprocess.DEVNULL, stdout=subprocess.PIPE,
+                             stderr=subprocess.STDOUT, text=True, timeout=60, check=False)
+        console.expect(f"what check finds wrong in {device.uid}", [f"{at}: {rule}" for at, rule in WRONG.findall(ran.stdout)],
+                       wanted.get(device.uid))
+
+
 def check_watched(console, devices):
     """Whether watch polls all of these, until it is ended."""
     try:
@@ -280,6 +308,7 @@ def play(name, command, check_more, is_writing):
 def check_more_of_olas(console, devices, room):
     """What is asked of OLA's responders besides."""
     check_described(console, devices, room)
+    check_judged(console, devices, room)
     Survey(console, devices).check()
     check_slow(console, next(device.uid for device in devices if "Ack Timer" in device.found))
     check_watched(console, devices)

@@ -200,7 +200,7 @@ std::vector<uint8_t> Heard(Line *line, const uint8_t *request) {
 Outcome Ours(const std::vector<uint64_t> &uids, bool noise) {
   Line line(uids, noise);
   Outcome outcome;
-  felosumay_search search = {nullptr};
+  felosumay_search search = {0};
   if (felosumay_search_new(&search, 0x7FF0, 0xC0, static_cast<uint32_t>(74 * uids.size() + 2)) != FELOSUMAY_DONE) return outcome;
   uint8_t request[FELOSUMAY_FRAME_BYTES];
   size_t count = 0;

@@ -14,7 +14,7 @@ use rdm_host::host::Host;
 use rdm_host::name::Lines;
 use rdm_host::source::OUTPUT;
 use rdm_line_console::Terminals;
-use rdm_subcommands::{chart, fixture, parameters, play, widget, words};
+use rdm_subcommands::{chart, check, fixture, parameters, play, widget, words};
 use std::env;
 use std::io::IsTerminal;
 use std::process::ExitCode;
@@ -63,10 +63,12 @@ fn run<'a, H: Host>(
         Some(("play", asked)) => play::run(rt, asked),
         Some(("words", asked)) => words::run(rt, asked),
         Some(("chart", asked)) => chart::run(rt, asked),
+        Some(("check", asked)) => check::run(rt, asked),
         Some(("fixture", asked)) => fixture::run(rt, asked),
         Some(("parameters", asked)) => parameters::run(rt, asked),
         Some(("widget", asked)) => widget::run(rt, asked),
         Some(("line", asked)) => rdm_line_console::run(rt, terminals, asked),
+        Some(("test", asked)) => rdm_line_console::test(rt, terminals, asked),
         _ => Ok(()),
     }
 }

@@ -4,3 +4,4 @@ pub mod Written
 pub mod Times
 pub mod Finding
 pub mod Going
+pub mod Recorded

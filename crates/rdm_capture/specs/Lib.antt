@@ -4,3 +4,4 @@ pub mod Carried
 pub mod Blocks
 pub mod Captures
 pub mod Written
+pub mod Traces

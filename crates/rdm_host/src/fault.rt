@@ -20,10 +20,12 @@ pub enum Fault<'a> {
     Words,
     /// Standard input is named twice.
     ReadTwice,
-    /// Standard output is named twice.
-    WrittenTwice,
+    /// Standard output is to take both of these.
+    WrittenTwice(&'a str, &'a str),
     /// A file is read and written.
     Overwritten(&'a str),
+    /// A file is to take two outputs.
+    SameOutput(&'a str),
     /// More sub-devices are asked for than this file says.
     TooManySubs(&'a str, u16),
     /// There are to be fixtures of so many kinds on the line, and so many of each.
@@ -52,8 +54,16 @@ pub enum Fault<'a> {
     NoOwnNames(&'a str, rdm_script::Refusal),
     /// A file isn't a valid script, and no more is known.
     NoScript(&'a str, ScriptError),
+    /// This line of a script, counted from 1, isn't a valid expectation, for this reason.
+    Expectation(&'a str, usize, &'a str),
+    /// So many expectations of a script failed, each of which was told.
+    Unmet(usize),
+    /// So many replies in a trace break a reply rule, each of which was told.
+    Wrong(usize),
     /// A file isn't a valid trace, by this line, counted from 1.
     NoTrace(&'a str, usize),
+    /// A file isn't a valid capture, from this byte on, counted from 0.
+    NoCapture(&'a str, usize),
     /// A trace has more transactions than this, which is as many as a chart can have.
     TooManyTransactions(&'a str, usize),
     /// The run of a script stops, at this line if it is known.
@@ -137,8 +147,12 @@ impl<'a> Fault<'a> {
             | Fault::Script(_, _)
             | Fault::NoOwnNames(_, _)
             | Fault::NoScript(_, _)
+            | Fault::Expectation(_, _, _)
+            | Fault::Unmet(_)
+            | Fault::Wrong(_)
             | Fault::NoText(_, _)
             | Fault::NoTrace(_, _)
+            | Fault::NoCapture(_, _)
             | Fault::TooManyTransactions(_, _)
             | Fault::Syntax(_, _, _)
             | Fault::Fixture(_, _, _)
@@ -151,8 +165,9 @@ impl<'a> Fault<'a> {
             Fault::Clock(_) | Fault::Io(_, _) => 4,
             Fault::Words
             | Fault::ReadTwice
-            | Fault::WrittenTwice
+            | Fault::WrittenTwice(_, _)
             | Fault::Overwritten(_)
+            | Fault::SameOutput(_)
             | Fault::TooManySubs(_, _)
             | Fault::TooManyFixtures(_, _)
             | Fault::TooFewDeviceIds(_, _, _)

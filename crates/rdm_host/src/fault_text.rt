@@ -17,12 +17,16 @@ impl fmt::Display for Fault<'_> {
             Fault::TooLong(_, _)
             | Fault::TooManyKeys(_, _)
             | Fault::NoTrace(_, _)
+            | Fault::NoCapture(_, _)
             | Fault::NoText(_, _)
             | Fault::Syntax(_, _, _)
             | Fault::TooManyTransactions(_, _) => write_unread(f, self),
             Fault::Script(_, _)
             | Fault::NoOwnNames(_, _)
             | Fault::NoScript(_, _)
+            | Fault::Expectation(_, _, _)
+            | Fault::Unmet(_)
+            | Fault::Wrong(_)
             | Fault::Stopped(_, _, _)
             | Fault::BadSetup(_, _, _) => write_unplayed(f, self),
             Fault::Fixture(_, _, _)
@@ -42,6 +46,11 @@ fn write_unread<W: fmt::Write>(f: &mut fmt::Formatter<W>, fault: &Fault<'_>) -> 
         Fault::NoTrace(name, line) => write!(
             f,
             "{}:{line}: this isn't a valid line of a trace",
+            Name(name)
+        ),
+        Fault::NoCapture(name, byte) => write!(
+            f,
+            "{}: this isn't a valid capture from byte {byte} on",
             Name(name)
         ),
         Fault::NoText(name, place) => write!(f, "{}:{place}: this isn't valid UTF-8", Name(name)),
@@ -70,6 +79,11 @@ fn write_unplayed<W: fmt::Write>(f: &mut fmt::Formatter<W>, fault: &Fault<'_>) -
             Name(name)
         ),
         Fault::NoScript(name, error) => write!(f, "{}: {error}", Name(name)),
+        Fault::Expectation(name, line, reason) => write!(f, "{}:{line}: {reason}", Name(name)),
+        Fault::Unmet(1) => f.write_str("error: one expectation failed"),
+        Fault::Unmet(count) => write!(f, "error: {count} expectations failed"),
+        Fault::Wrong(1) => f.write_str("error: one reply breaks the reply rules"),
+        Fault::Wrong(count) => write!(f, "error: {count} replies break the reply rules"),
         Fault::Stopped(name, line, error) => {
             write_place(f, name, *line)?;
             write_stop(f, *error)
@@ -108,8 +122,9 @@ fn write_no_fixture<W: fmt::Write>(f: &mut fmt::Formatter<W>, fault: &Fault<'_>)
 fn write_refused<W: fmt::Write>(f: &mut fmt::Formatter<W>, fault: &Fault<'_>) -> fmt::Result {
     match fault {
         Fault::ReadTwice => f.write_str("error: standard input can only be read once"),
-        Fault::WrittenTwice => f.write_str(
-            "error: standard output can't take both the words and the chart",
+        Fault::WrittenTwice(first, second) => write!(
+            f,
+            "error: standard output can't take both {first} and {second}"
         ),
         Fault::Overwritten(path) => {
             write!(
@@ -117,6 +132,9 @@ fn write_refused<W: fmt::Write>(f: &mut fmt::Formatter<W>, fault: &Fault<'_>) ->
                 "error: {}: input and output are the same file",
                 Name(path)
             )
+        }
+        Fault::SameOutput(path) => {
+            write!(f, "error: {}: two outputs are the same file", Name(path))
         }
         Fault::TooManySubs(name, most) => write!(
             f,

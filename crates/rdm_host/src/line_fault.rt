@@ -28,6 +28,8 @@ pub enum LineFault<'a> {
     NoDigits(&'a str),
     /// The words aren't one command.
     NoCommand,
+    /// The console can't have this UID: it is that of several devices, or of the one that it talks to.
+    ConsolesUid(Uid),
     /// Only a SET can be sent to the devices of this UID, which are several.
     Several(Uid),
     /// The command asks for what only `collect` fetches.
@@ -94,6 +96,7 @@ impl LineFault<'_> {
             | LineFault::NoData(_)
             | LineFault::NoDigits(_)
             | LineFault::NoCommand
+            | LineFault::ConsolesUid(_)
             | LineFault::Several(_)
             | LineFault::Reserved
             | LineFault::TooLong
@@ -209,6 +212,10 @@ impl fmt::Display for LineFault<'_> {
                 write_no_word(f, self)
             }
             LineFault::NoCommand => f.write_str("expected exactly one command"),
+            LineFault::ConsolesUid(uid) => write!(
+                f,
+                "--from: {uid} can't send: expected the UID of a single device, and not that of --uid"
+            ),
             LineFault::Several(uid) => {
                 write!(
                     f,

@@ -67,7 +67,7 @@ pub fn without_mark(text: &[u8]) -> &[u8] {
     }
 }
 
-/// Refuses a command line that has a stream read or written twice, or a file written that is read.
+/// Refuses a command line that has a stream read or written twice, or a file written that is read or written already.
 pub fn refuse_clashes<'a>(asked: &ArgMatches<'a>) -> Result<(), Fault<'a>> {
     let input = Source::named(asked.get_str(rdm_usage::INPUT));
     let fixture = asked.get_str(rdm_usage::FIXTURE);
@@ -79,13 +79,41 @@ pub fn refuse_clashes<'a>(asked: &ArgMatches<'a>) -> Result<(), Fault<'a>> {
         Some(path) => path,
         None => asked.get_str(rdm_usage::OUTPUT).unwrap_or("-"),
     };
+    refuse_overwriting(input, fixture, written)?;
+    refuse_overwriting(
+        input,
+        fixture,
+        asked.get_str(rdm_usage::JUNIT).unwrap_or("-"),
+    )?;
+    refuse_two_outputs(asked)
+}
+
+/// Refuses to write a file that is read.
+fn refuse_overwriting<'a>(
+    input: Source<'a>,
+    fixture: Option<&'a str>,
+    written: &'a str,
+) -> Result<(), Fault<'a>> {
     if written != "-" && (input == Source::File(written) || fixture == Some(written)) {
         return Err(Fault::Overwritten(written));
     }
-    if asked.get_str(rdm_usage::CHART) == Some("-") && asked.get_flag(rdm_usage::WORDS) {
-        return Err(Fault::WrittenTwice);
-    }
     Ok(())
+}
+
+/// Refuses a file or standard output that is to take two outputs. What an option prints on standard output stands there in the place of
+/// the trace.
+fn refuse_two_outputs<'a>(asked: &ArgMatches<'a>) -> Result<(), Fault<'a>> {
+    let prints_words = asked.get_flag(rdm_usage::WORDS);
+    match (
+        asked.get_str(rdm_usage::CHART),
+        asked.get_str(rdm_usage::JUNIT),
+    ) {
+        (Some("-"), _) if prints_words => Err(Fault::WrittenTwice("the words", "the chart")),
+        (_, Some("-")) if prints_words => Err(Fault::WrittenTwice("the words", "the results")),
+        (Some("-"), Some("-")) => Err(Fault::WrittenTwice("the chart", "the results")),
+        (Some(chart), Some(results)) if chart == results => Err(Fault::SameOutput(results)),
+        _ => Ok(()),
+    }
 }
 
 /// Writes a text to a file, or to standard output if the path is `-`.

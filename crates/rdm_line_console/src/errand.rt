@@ -3,6 +3,7 @@
 use super::entry::{Described, Entry, ask_described, load_in, parameter_in};
 use super::plain::{Reading, read_each};
 use super::playing::{Play, play_through};
+use super::testing::{Suite, test_through};
 use super::watching::watch;
 use clap::ArgMatches;
 use rdm_bus::Fault as BusFault;
@@ -57,7 +58,9 @@ pub enum Errand<'a> {
     /// Devices are set back to a survey.
     Restore(Restoring),
     /// A script is played.
-    Play(Play),
+    Play(Play<'a>),
+    /// A device is tested with scripts.
+    Test(Suite<'a>),
 }
 
 impl<'a> Errand<'a> {
@@ -127,6 +130,7 @@ impl<'a> Errand<'a> {
             Errand::Compare(then) => compare(console, then),
             Errand::Restore(restoring) => restore(console, restoring),
             Errand::Play(script) => play_through(console, script),
+            Errand::Test(suite) => test_through(console, suite),
         }
     }
 }
@@ -186,8 +190,36 @@ fn refuse_clashes<'a>(asked: &ArgMatches<'a>, words: &ArgMatches<'a>) -> Result<
     }
     match asked.get_str(rdm_usage::TRACE) {
         Some(path) if script == Source::File(path) => Err(Fault::Overwritten(path)),
-        _ => Ok(()),
+        _ => refuse_results(asked, words),
     }
+}
+
+/// Refuses a file for what came of expectations that is read or written already, and standard output, if that is the line or takes the words
+/// of the trace.
+pub(crate) fn refuse_results<'a>(
+    asked: &ArgMatches<'a>,
+    words: &ArgMatches<'a>,
+) -> Result<(), Fault<'a>> {
+    let Some(path) = words.get_str(rdm_usage::JUNIT) else {
+        return Ok(());
+    };
+    if path == "-" && asked.get_str(rdm_usage::PORT) == Some("-") {
+        return Err(Fault::WrittenTwice("the line", "the results"));
+    }
+    if path == "-" && words.get_flag(rdm_usage::WORDS) {
+        return Err(Fault::WrittenTwice("the words", "the results"));
+    }
+    if asked.get_str(rdm_usage::TRACE) == Some(path) {
+        return Err(Fault::SameOutput(path));
+    }
+    let fixtures = asked.get_strs(rdm_usage::FIXTURE).unwrap_or(&[]);
+    let is_read = Source::named(words.get_str(rdm_usage::INPUT)) == Source::File(path)
+        || asked.get_str(rdm_usage::PORT) == Some(path)
+        || fixtures.iter().any(|name| *name == path);
+    if is_read && path != "-" {
+        return Err(Fault::Overwritten(path));
+    }
+    Ok(())
 }
 
 /// The one device that is named.

@@ -2,6 +2,7 @@
 
 use super::errand::Errand;
 use super::hint::Hint;
+use super::testing::Suite;
 use clap::ArgMatches;
 use rdm_collector::PortError;
 use rdm_host::fault::Fault;
@@ -38,11 +39,33 @@ pub fn run<'a, H: Host>(
 ) -> Result<(), Fault<'a>> {
     refuse_clashes(asked)?;
     let errand = Errand::asked_for(rt, asked)?;
+    run_errand(rt, terminals, asked, &errand)
+}
+
+/// Tests a device on the line of a port, or of standard input and output, with the scripts that are named. What can't be played is refused
+/// before anything is sent.
+pub fn test<'a, H: Host>(
+    rt: H,
+    terminals: Terminals,
+    asked: &ArgMatches<'a>,
+) -> Result<(), Fault<'a>> {
+    refuse_clashes(asked)?;
+    let errand = Errand::Test(Suite::asked_for(rt, asked)?);
+    run_errand(rt, terminals, asked, &errand)
+}
+
+/// Does what is asked for on the line of a port, or of standard input and output.
+fn run_errand<'a, H: Host>(
+    rt: H,
+    terminals: Terminals,
+    asked: &ArgMatches<'a>,
+    errand: &Errand<'a>,
+) -> Result<(), Fault<'a>> {
     match Source::named(asked.get_str(rdm_usage::PORT)) {
         Source::File(name) => {
             let teller = Teller::new(rt, Place::Output, terminals.errors);
             let ends = ends_of(rt, name)?;
-            run_on(teller, asked, &errand, ends)
+            run_on(teller, asked, errand, ends)
         }
         Source::Input => {
             let teller = Teller::new(rt, Place::Errors, terminals.errors);
@@ -52,7 +75,7 @@ pub fn run<'a, H: Host>(
                 writer: io::writer(&rt),
                 gives_up: terminals.input,
             };
-            run_on(teller, asked, &errand, ends)
+            run_on(teller, asked, errand, ends)
         }
     }
 }
@@ -174,10 +197,14 @@ fn trace_file<'a, H: Host>(
         .create(true)
         .truncate(true)
         .open(&rt, path);
-    match made {
-        Ok(file) => Ok(Some(TraceFile { path, file })),
-        Err(error) => Err(Fault::Io(path, error)),
+    let file = match made {
+        Ok(file) => file,
+        Err(error) => return Err(Fault::Io(path, error)),
+    };
+    if asked.get_str(rdm_usage::TRACE_AS) == Some(rdm_usage::PCAPNG) {
+        return Ok(Some(TraceFile::capture(rt.alloc(), path, file)?));
     }
+    Ok(Some(TraceFile::lines(rt.alloc(), path, file)))
 }
 
 /// Opens what may be a port, for reading and writing, and changes nothing in it.

@@ -7,50 +7,103 @@ use rdm_collector::{
     is_reserved, read_reply,
 };
 use rdm_crew::{CrewStep, RunError};
+use rdm_expect::Expectation;
 use rdm_frame::standard::DISC_MUTE;
 use rdm_host::fault::Fault;
 use rdm_host::host::Host;
 use rdm_host::line_fault::LineFault;
 use rdm_host::source::{Source, without_mark};
 use rdm_line_talk::{CONSOLE, Console, Printed, uid_in};
+use rdm_results::{Results, sheet_in};
 use rdm_script::{Dialect, Finds, MOST_BYTES, Script, Spelling, parse_as};
 use rdm_trace::Line;
 use std::io::Write;
 
 /// A script for a device.
 #[derive(Drop)]
-pub struct Play {
+pub struct Play<'a> {
     uid: Uid,
+    /// Who sends.
+    console: Uid,
+    /// By what name messages tell of the script.
+    pub(crate) name: &'a str,
     script: Script,
+    /// What is expected of it.
+    pub(crate) expectations: Vec<Expectation>,
+    /// The file for what came of that, if one is asked for.
+    results: Option<&'a str>,
     /// As what its trace is printed.
     printed: Printed,
 }
 
-impl Play {
+impl<'a> Play<'a> {
     /// The one that the words of the command line ask for. A script is refused that isn't valid, or says what can't be sent.
-    pub(crate) fn asked_for<'a, H: Host>(rt: H, asked: &ArgMatches<'a>) -> Result<Play, Fault<'a>> {
+    pub(crate) fn asked_for<H: Host>(rt: H, asked: &ArgMatches<'a>) -> Result<Play<'a>, Fault<'a>> {
         let uid = device_in(asked)?;
+        let console = console_in(asked, uid)?;
         let source = Source::named(asked.get_str(rdm_usage::INPUT));
         let bytes = source.read(rt, MOST_BYTES as u64)?;
         let text = without_mark(bytes.as_slice());
-        let dialect = Dialect::of(uid, Spelling::Friendly);
-        let script = match parse_as(rt.alloc(), &dialect, text) {
-            Ok(script) => script,
-            Err(error) => return Err(Fault::script(source.name(), &dialect, text, error)),
-        };
-        match stop_of(&script) {
-            Some((line, error)) => Err(Fault::Stopped(source.name(), line, error)),
-            None => Ok(Play {
-                uid,
-                script,
-                printed: printed(asked, uid),
-            }),
-        }
+        Ok(Play {
+            results: asked.get_str(rdm_usage::JUNIT),
+            printed: printed(asked, uid),
+            ..Play::of(rt, uid, console, source.name(), text)?
+        })
+    }
+
+    /// The one for this device that a text is, of which nothing is printed.
+    pub(crate) fn of<H: Host>(
+        rt: H,
+        uid: Uid,
+        console: Uid,
+        name: &'a str,
+        text: &[u8],
+    ) -> Result<Play<'a>, Fault<'a>> {
+        let sheet = sheet_in(rt.alloc(), name, text)?;
+        Ok(Play {
+            uid,
+            console,
+            name,
+            script: script_in(rt, name, uid, sheet.script.as_slice())?,
+            expectations: sheet.expectations,
+            results: None,
+            printed: Printed::Nothing,
+        })
     }
 }
 
+/// The script for this device that a text is. One is refused that isn't valid, or says what can't be sent.
+fn script_in<'a, H: Host>(
+    rt: H,
+    name: &'a str,
+    uid: Uid,
+    text: &[u8],
+) -> Result<Script, Fault<'a>> {
+    let dialect = Dialect::of(uid, Spelling::Friendly);
+    let script = match parse_as(rt.alloc(), &dialect, text) {
+        Ok(script) => script,
+        Err(error) => return Err(Fault::script(name, &dialect, text, error)),
+    };
+    match stop_of(&script) {
+        Some((line, error)) => Err(Fault::Stopped(name, line, error)),
+        None => Ok(script),
+    }
+}
+
+/// The UID that sends: the console's, unless another one is asked for. That is one of a single device, and not of the one that is tested.
+pub(crate) fn console_in<'a>(asked: &ArgMatches<'a>, uid: Uid) -> Result<Uid, Fault<'a>> {
+    let Some(word) = asked.get_str(rdm_usage::FROM) else {
+        return Ok(CONSOLE);
+    };
+    let console = uid_in(word)?;
+    if console.is_broadcast() || console == uid {
+        return Err(Fault::Line(LineFault::ConsolesUid(console)));
+    }
+    Ok(console)
+}
+
 /// The UID that is named, which is that of one device.
-fn device_in<'a>(asked: &ArgMatches<'a>) -> Result<Uid, Fault<'a>> {
+pub(crate) fn device_in<'a>(asked: &ArgMatches<'a>) -> Result<Uid, Fault<'a>> {
     let uid = uid_in(asked.get_str(rdm_usage::UID).unwrap_or(""))?;
     if uid.is_broadcast() {
         return Err(Fault::Line(LineFault::Several(uid)));
@@ -58,9 +111,11 @@ fn device_in<'a>(asked: &ArgMatches<'a>) -> Result<Uid, Fault<'a>> {
     Ok(uid)
 }
 
-/// As what the trace of a script for this device is to be printed.
+/// As what the trace of a script for this device is to be printed. What came of expectations may be printed in its place.
 fn printed(asked: &ArgMatches<'_>, uid: Uid) -> Printed {
-    if asked.get_flag(rdm_usage::WORDS) {
+    if asked.get_str(rdm_usage::JUNIT) == Some("-") {
+        Printed::Nothing
+    } else if asked.get_flag(rdm_usage::WORDS) {
         Printed::Words(uid)
     } else {
         Printed::Trace
@@ -104,27 +159,58 @@ impl Playing {
     }
 }
 
-/// Plays a script, and prints its trace, or its words. Its commands and polls are sent, once each, and what goes wrong with them
-/// does. A settle waits for as long as the device has estimated for all commands since the last one. What else happens in a
-/// script, happens in the device by itself.
+/// Plays a script, and prints its trace, or its words. Then it is told what came of what is expected.
 pub(crate) fn play_through<'a, H: Host, P: Port, F: Write>(
     console: &mut Console<'a, H, P, F>,
-    play: &Play,
+    play: &Play<'a>,
 ) -> Result<(), Fault<'a>> {
-    let Play {
-        uid,
-        script,
-        printed,
-    } = play;
-    console.port.log().print_as(*printed);
+    console.port.log().print_as(play.printed);
+    if !play.expectations.is_empty() {
+        console.port.log().judge();
+    }
+    play_script(console, play)?;
+    judge_all(console, play)
+}
+
+/// Plays a script. Its commands and polls are sent, once each, and what goes wrong with them does. A settle waits for as long as the device
+/// has estimated for all commands since the last one. What else happens in a script, happens in the device by itself.
+pub(crate) fn play_script<'a, H: Host, P: Port, F: Write>(
+    console: &mut Console<'a, H, P, F>,
+    play: &Play<'a>,
+) -> Result<(), Fault<'a>> {
+    let script = &play.script;
     let alloc = console.teller.rt().alloc();
     let mut playing = Playing {
-        uid: *uid,
-        collector: DeviceCollector::new(alloc, CONSOLE, *uid, script.setup.want),
+        uid: play.uid,
+        collector: DeviceCollector::new(alloc, play.console, play.uid, script.setup.want),
         finds: script.finds,
         tenths: 0,
     };
     play_all(console, &mut playing, script)
+}
+
+/// Tells what came of what is expected of a script, and writes it to the file that is asked for. The report is told where the trace is,
+/// unless the results are printed there.
+fn judge_all<'a, H: Host, P: Port, F: Write>(
+    console: &mut Console<'a, H, P, F>,
+    play: &Play<'a>,
+) -> Result<(), Fault<'a>> {
+    let teller = console.teller;
+    let lines = console.port.log().judged();
+    let results = Results::of(
+        teller.rt(),
+        play.results,
+        play.name,
+        &play.expectations,
+        lines,
+    )?;
+    let report = results.report.as_bytes();
+    if play.results == Some("-") {
+        teller.on_errors().tell(report)?;
+    } else {
+        teller.tell(report)?;
+    }
+    results.end()
 }
 
 /// Plays all steps of a script, and tells what was collected.

@@ -14,11 +14,13 @@ mod parts;
 mod recorder;
 mod targets;
 mod telling;
+mod trace_file;
 
 pub use asking::{Outcome, fault_of};
 pub use console::Console;
 pub use knowledge::Knowledge;
-pub use log::{Log, NotKept, Printed, TraceFile};
+pub use log::{Log, NotKept, Printed};
 pub use recorder::Recorder;
 pub use targets::{Tally, Targets, uid_in};
 pub use telling::{CONSOLE, Place, Teller, Terminals};
+pub use trace_file::TraceFile;

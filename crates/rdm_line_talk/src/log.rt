@@ -2,6 +2,7 @@
 
 use crate::knowledge::Knowledge;
 use crate::telling::Teller;
+use crate::trace_file::TraceFile;
 use rdm_frame::Uid;
 use rdm_host::fault::Fault;
 use rdm_host::host::Speaker;
@@ -9,15 +10,6 @@ use rdm_trace::{Line, put_line};
 use rdm_words::{Before, put_line_words};
 use std::io::Write;
 use std::time::Instant;
-
-/// A file for a trace, and its name.
-#[derive(Drop)]
-pub struct TraceFile<'a, F> {
-    /// By what name messages tell of it.
-    pub path: &'a str,
-    /// The file.
-    pub file: F,
-}
 
 /// As what a trace is printed.
 #[derive(Clone, Copy, PartialEq, Eq)]
@@ -43,6 +35,8 @@ pub struct Log<'a, H, F> {
     start: Option<Instant>,
     /// What the lines that were printed told, for the words of the next.
     before: Before,
+    /// The lines, if somebody judges them.
+    judged: Option<Vec<Line>>,
     /// Why it isn't kept any more.
     fault: Option<Fault<'a>>,
 }
@@ -65,6 +59,7 @@ impl<'a, H: Speaker, F: Write> Log<'a, H, F> {
             printed: Printed::Nothing,
             start: None,
             before: Before::nothing(),
+            judged: None,
             fault: None,
         }
     }
@@ -74,22 +69,57 @@ impl<'a, H: Speaker, F: Write> Log<'a, H, F> {
         self.printed = printed;
     }
 
+    /// The lines are judged from now on, and the times of replies with them.
+    pub fn judge(&mut self) {
+        self.judged = Some(Vec::new(self.teller.rt().alloc()));
+    }
+
+    /// The lines that are judged: none, unless that was asked for.
+    pub fn judged(&self) -> &[Line] {
+        match &self.judged {
+            Some(lines) => lines.as_slice(),
+            None => &[],
+        }
+    }
+
     /// Keeps a line.
-    pub fn keep(&mut self, line: &Line) -> Result<(), NotKept> {
-        match self.write(line) {
-            Ok(()) => Ok(()),
+    pub fn keep(&mut self, line: Line) -> Result<(), NotKept> {
+        match self.write(&line) {
+            Ok(()) => self.remember(line),
             Err(fault) => self.fail(fault),
         }
     }
 
-    /// Keeps the time since the first request, if a trace is kept or printed: it is that of what comes next.
+    /// Keeps the time since the first request, if a trace is kept, printed or judged: it is that of what comes next.
     pub fn keep_time(&mut self) -> Result<(), NotKept> {
-        if self.kept_in.is_none() && self.printed == Printed::Nothing {
+        if self.kept_in.is_none() && self.printed == Printed::Nothing && self.judged.is_none() {
             return Ok(());
         }
         match self.millis() {
-            Ok(millis) => self.keep(&Line::Time { millis }),
+            Ok(millis) => self.keep(Line::Time { millis }),
             Err(fault) => self.fail(fault),
+        }
+    }
+
+    /// Keeps the time of a reply for those who judge it. It is printed nowhere.
+    pub fn note_time(&mut self) -> Result<(), NotKept> {
+        if self.judged.is_none() {
+            return Ok(());
+        }
+        match self.millis() {
+            Ok(millis) => self.remember(Line::Time { millis }),
+            Err(fault) => self.fail(fault),
+        }
+    }
+
+    /// Keeps a line for those who judge it, if somebody does.
+    fn remember(&mut self, line: Line) -> Result<(), NotKept> {
+        let Some(lines) = &mut self.judged else {
+            return Ok(());
+        };
+        match lines.push(line) {
+            Ok(()) => Ok(()),
+            Err(_) => self.fail(Fault::Memory),
         }
     }
 
@@ -106,9 +136,7 @@ impl<'a, H: Speaker, F: Write> Log<'a, H, F> {
         let mut text = Vec::new(self.teller.rt().alloc());
         put_line(&mut text, line)?;
         if let Some(kept_in) = &mut self.kept_in {
-            if let Err(error) = kept_in.file.write_all(text.as_slice()) {
-                return Err(Fault::Io(kept_in.path, error));
-            }
+            kept_in.keep(line, text.as_slice())?;
         }
         match self.printed {
             Printed::Nothing => Ok(()),

@@ -45,6 +45,7 @@ impl<'a, H: Speaker, P: Port, F: Write> Recorder<'a, H, P, F> {
             Some(bytes) => self.port.exchange(&bytes)?,
             None => None,
         };
+        note_time(&mut self.log)?;
         keep(&mut self.log, Line::Reply(copy_of(&reply)))?;
         match &reply {
             Some(bytes) => Ok(fault.reply_heard(bytes)),
@@ -113,11 +114,21 @@ fn keep_sent<H: Speaker, F: Write>(
     }
 }
 
+/// Keeps the time of a reply for those who judge it.
+fn note_time<H: Speaker, F: Write>(log: &mut Log<'_, H, F>) -> Result<(), PortError>
+    ensures { IfErr result (λ error. error ≡ WriteFault) }
+{
+    match log.note_time() {
+        Ok(()) => Ok(()),
+        Err(NotKept) => Err(PortError::Write),
+    }
+}
+
 /// Keeps a line.
 fn keep<H: Speaker, F: Write>(log: &mut Log<'_, H, F>, line: Line) -> Result<(), PortError>
     ensures { IfErr result (λ error. error ≡ WriteFault) }
 {
-    match log.keep(&line) {
+    match log.keep(line) {
         Ok(()) => Ok(()),
         Err(NotKept) => Err(PortError::Write),
     }

@@ -96,7 +96,7 @@ then_same : {A B : Type 0} (r : Result A Nack) (f g : A → Result B Nack) → (
 then_same (Ok x) f g same = same x
 then_same (Err nack) f g same = refl
 
-known_alike : (p q : Parameters) (sub : ℕ) (row : Option Row) (verb : Verb) → SameDevices p q → known q sub row verb ≡ known p sub row verb
+pub known_alike : (p q : Parameters) (sub : ℕ) (row : Option Row) (verb : Verb) → SameDevices p q → known q sub row verb ≡ known p sub row verb
 known_alike p q sub row verb same =
     ap (λ (here : Bool). check here SubDeviceOutOfRange >>= (λ u. access row (sub == 0) verb)) (some_alike (addressed p sub verb) (addressed q sub verb) (alike p q sub verb same))
 

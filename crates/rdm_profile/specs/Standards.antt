@@ -1,6 +1,6 @@
 -- The parameters of E1.20 and of E1.37-1 that a profile can add to the table, a line each, in the order of their PIDs: the commands that
 -- the standard gives it, and the data. E1.20 section 10 and table A-3; E1.37-1, its sections on these parameters and its table of PIDs.
-use Rattle.std.specs.Prelude.{ℕ, pos, ◌*◌, ◌%◌, Bool, true, false, ◌==◌, ◌&&◌, ◌||◌, not, nat_le, bytes_eq, List, [], ◌∷◌, length}
+use Rattle.std.specs.Prelude.{ℕ, pos, ◌*◌, ◌%◌, Bool, true, false, ◌==◌, ◌&&◌, ◌||◌, not, nat_le, bytes_eq, List, [], ◌∷◌, length, codes}
 use Rattle.std.specs.List.{list_all, list_any}
 use Rattle.std.specs.Ordering.{int_eq}
 use Rattle.rdm_profile.specs.declared.profile.fields.Field.{Field}
@@ -11,14 +11,16 @@ use Rattle.rdm_profile.specs.declared.profile.own.Shape.{Shape}
 use Rattle.rdm_profile.specs.declared.profile.own.Shape.TheVariants as shapes
 use Rattle.rdm_profile.specs.Fields.{have_sizes}
 
--- A line: the PID, the commands that the parameter can have, and whether the data of a parameter of a profile are those of the standard.
+-- A line: the PID, the name, the commands that the parameter can have, and whether the data of a parameter of a profile are those of the
+-- standard.
 pub record Standard : Type 0 where
   pub pid : ℕ
+  pub name : List ℕ
   pub rights : Rights
   pub fits : ParameterDef → Bool
 
-abbrev pub standard : ℕ → Rights → (ParameterDef → Bool) → Standard
-standard pid rights fits = record { pid = pid; rights = rights; fits = fits }
+abbrev pub standard : ℕ → List ℕ → Rights → (ParameterDef → Bool) → Standard
+standard pid name rights fits = record { pid = pid; name = name; rights = rights; fits = fits }
 
 -- so many slots in all, in which numbers of so many slots each stand one after another; a profile need not say the fields
 abbrev pub are_numbers : ℕ → List ℕ → Shape → List Field → Bool
@@ -104,32 +106,32 @@ block d = is_block d.shape && is_shown d.rights
 -- the lines
 abbrev pub standards : List Standard
 standards =
-    standard 0x0015 rights.Clear (numbers 6 (2 ∷ 2 ∷ 2 ∷ []))  -- COMMS_STATUS: short messages, wrong lengths, wrong checksums
-    ∷ standard 0x0070 rights.Get (words 6)  -- PRODUCT_DETAIL_ID_LIST
-    ∷ standard 0x0140 rights.Both block  -- DMX_BLOCK_ADDRESS
-    ∷ standard 0x0141 rights.Both (numbers 7 (2 ∷ 2 ∷ 2 ∷ 1 ∷ []))  -- DMX_FAIL_MODE: scene, delay, hold time, level
-    ∷ standard 0x0142 rights.Both (numbers 7 (2 ∷ 2 ∷ 2 ∷ 1 ∷ []))  -- DMX_STARTUP_MODE: the same
-    ∷ standard 0x0340 rights.Get (numbers 11 (2 ∷ 2 ∷ 2 ∷ 2 ∷ 1 ∷ 1 ∷ 1 ∷ []))  -- DIMMER_INFO: limits of the levels, curves, bits, split
-    ∷ standard 0x0341 rights.Both (numbers 5 (2 ∷ 2 ∷ 1 ∷ []))  -- MINIMUM_LEVEL: increasing, decreasing, on below it
-    ∷ standard 0x0342 rights.Both (numbers 2 (2 ∷ []))  -- MAXIMUM_LEVEL
-    ∷ standard 0x0343 rights.Both choice  -- CURVE
-    ∷ standard 0x0344 rights.Get names  -- CURVE_DESCRIPTION
-    ∷ standard 0x0345 rights.Both choice  -- OUTPUT_RESPONSE_TIME
-    ∷ standard 0x0346 rights.Get names  -- OUTPUT_RESPONSE_TIME_DESCRIPTION
-    ∷ standard 0x0347 rights.Both choice  -- MODULATION_FREQUENCY
-    ∷ standard 0x0348 rights.Get rates  -- MODULATION_FREQUENCY_DESCRIPTION
-    ∷ standard 0x0440 rights.Both (numbers 1 (1 ∷ []))  -- BURN_IN: hours
-    ∷ standard 0x0603 rights.Both (numbers 7 (2 ∷ 1 ∷ 1 ∷ 1 ∷ 1 ∷ 1 ∷ []))  -- REAL_TIME_CLOCK: year, month, day, hour, minute, second
-    ∷ standard 0x0640 rights.Both pin  -- LOCK_PIN
-    ∷ standard 0x0641 rights.Both lock  -- LOCK_STATE
-    ∷ standard 0x0642 rights.Get names  -- LOCK_STATE_DESCRIPTION
-    ∷ standard 0x1001 rights.Set (numbers 1 (1 ∷ []))  -- RESET_DEVICE: warm or cold
-    ∷ standard 0x1030 rights.Set (numbers 8 (2 ∷ 2 ∷ 2 ∷ 2 ∷ []))  -- CAPTURE_PRESET: scene, times up and down, wait time
-    ∷ standard 0x1040 rights.Both (numbers 1 (1 ∷ []))  -- IDENTIFY_MODE
-    ∷ standard 0x1041 rights.Get (numbers 32 [])  -- PRESET_INFO: 6 of one slot and 13 of two, more than a profile can say
-    ∷ standard 0x1042 rights.Both scenes  -- PRESET_STATUS
-    ∷ standard 0x1043 rights.Both (numbers 1 (1 ∷ []))  -- PRESET_MERGEMODE
-    ∷ standard 0x1044 rights.Both (numbers 1 (1 ∷ []))  -- POWER_ON_SELF_TEST
+    standard 0x0015 (codes "COMMS_STATUS") rights.Clear (numbers 6 (2 ∷ 2 ∷ 2 ∷ []))  -- short messages, wrong lengths, wrong checksums
+    ∷ standard 0x0070 (codes "PRODUCT_DETAIL_ID_LIST") rights.Get (words 6)
+    ∷ standard 0x0140 (codes "DMX_BLOCK_ADDRESS") rights.Both block
+    ∷ standard 0x0141 (codes "DMX_FAIL_MODE") rights.Both (numbers 7 (2 ∷ 2 ∷ 2 ∷ 1 ∷ []))  -- scene, delay, hold time, level
+    ∷ standard 0x0142 (codes "DMX_STARTUP_MODE") rights.Both (numbers 7 (2 ∷ 2 ∷ 2 ∷ 1 ∷ []))  -- the same
+    ∷ standard 0x0340 (codes "DIMMER_INFO") rights.Get (numbers 11 (2 ∷ 2 ∷ 2 ∷ 2 ∷ 1 ∷ 1 ∷ 1 ∷ []))  -- limits of the levels, curves, bits, split
+    ∷ standard 0x0341 (codes "MINIMUM_LEVEL") rights.Both (numbers 5 (2 ∷ 2 ∷ 1 ∷ []))  -- increasing, decreasing, on below it
+    ∷ standard 0x0342 (codes "MAXIMUM_LEVEL") rights.Both (numbers 2 (2 ∷ []))
+    ∷ standard 0x0343 (codes "CURVE") rights.Both choice
+    ∷ standard 0x0344 (codes "CURVE_DESCRIPTION") rights.Get names
+    ∷ standard 0x0345 (codes "OUTPUT_RESPONSE_TIME") rights.Both choice
+    ∷ standard 0x0346 (codes "OUTPUT_RESPONSE_TIME_DESCRIPTION") rights.Get names
+    ∷ standard 0x0347 (codes "MODULATION_FREQUENCY") rights.Both choice
+    ∷ standard 0x0348 (codes "MODULATION_FREQUENCY_DESCRIPTION") rights.Get rates
+    ∷ standard 0x0440 (codes "BURN_IN") rights.Both (numbers 1 (1 ∷ []))  -- hours
+    ∷ standard 0x0603 (codes "REAL_TIME_CLOCK") rights.Both (numbers 7 (2 ∷ 1 ∷ 1 ∷ 1 ∷ 1 ∷ 1 ∷ []))  -- year, month, day, hour, minute, second
+    ∷ standard 0x0640 (codes "LOCK_PIN") rights.Both pin
+    ∷ standard 0x0641 (codes "LOCK_STATE") rights.Both lock
+    ∷ standard 0x0642 (codes "LOCK_STATE_DESCRIPTION") rights.Get names
+    ∷ standard 0x1001 (codes "RESET_DEVICE") rights.Set (numbers 1 (1 ∷ []))  -- warm or cold
+    ∷ standard 0x1030 (codes "CAPTURE_PRESET") rights.Set (numbers 8 (2 ∷ 2 ∷ 2 ∷ 2 ∷ []))  -- scene, times up and down, wait time
+    ∷ standard 0x1040 (codes "IDENTIFY_MODE") rights.Both (numbers 1 (1 ∷ []))
+    ∷ standard 0x1041 (codes "PRESET_INFO") rights.Get (numbers 32 [])  -- 6 of one slot and 13 of two, more than a profile can say
+    ∷ standard 0x1042 (codes "PRESET_STATUS") rights.Both scenes
+    ∷ standard 0x1043 (codes "PRESET_MERGEMODE") rights.Both (numbers 1 (1 ∷ []))
+    ∷ standard 0x1044 (codes "POWER_ON_SELF_TEST") rights.Both (numbers 1 (1 ∷ []))
     ∷ []
 
 -- whether these rights give no command that the standard doesn't

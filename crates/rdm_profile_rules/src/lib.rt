@@ -6,6 +6,7 @@ mod choice_checks;
 mod faults;
 mod field_checks;
 mod laws;
+mod lines;
 mod locks;
 mod own_checks;
 mod standards;

@@ -1,9 +1,10 @@
 //! Which parameters the maker of a fixture can add.
 
 ghost use Rattle.std.specs.Prelude.{◌≡◌, ◌≢◌, ◌↔◌, ◌<◌, ◌≤◌, length, IsTrue, All, AllPairs};
-ghost use Rattle.rdm_profile.specs.OwnParameters.{is_addable, is_lent, has_number, has_limits, can_start};
+ghost use Rattle.rdm_profile.specs.OwnParameters.{is_addable, has_number, has_limits, can_start};
 ghost use Rattle.rdm_profile.specs.Profiles.{HaveFreePids, HaveLimits, HaveStarts, Ascend};
 
+use crate::lines::is_lent;
 use rdm_added::added::{is_within, read_shape};
 use rdm_frame::standard::MOST_TEXT;
 use rdm_profile::{ParameterDef, Shape, is_makers};
@@ -66,20 +67,6 @@ pub fn is_addable(pid: u16) -> bool
     ensures { result ≡ is_addable pid }
 {
     is_makers(pid) || is_lent(pid)
-}
-
-/// Whether the PID is one of the standards' that a profile can add.
-pub(crate) fn is_lent(pid: u16) -> bool
-    ensures { result ≡ is_lent pid }
-{
-    match pid {
-        0x0015 | 0x0070 | 0x0140 | 0x0141 | 0x0142 | 0x0340 | 0x0341 | 0x0342 | 0x0440 | 0x0603 =>
-            true,
-        0x0343 | 0x0344 | 0x0345 | 0x0346 | 0x0347 | 0x0348 => true,
-        0x0640 | 0x0641 | 0x0642 => true,
-        0x1001 | 0x1030 | 0x1040 | 0x1041 | 0x1042 | 0x1043 | 0x1044 => true,
-        _ => false,
-    }
 }
 
 /// Whether a number can be said in a shape.

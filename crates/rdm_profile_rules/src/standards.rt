@@ -1,12 +1,13 @@
 //! The parameters of the standards that a profile can add to the table.
 
-ghost use Rattle.std.specs.Prelude.{◌≡◌, ◌↔◌, ◌*◌, ◌≤◌, ◌==◌, ◌||◌, length, IsTrue};
-ghost use Rattle.rdm_profile.specs.declared.profile.own.Rights.TheVariants as rights;
+ghost use Rattle.std.specs.Prelude.{◌≡◌, ◌↔◌, ◌==◌, ◌&&◌, ◌||◌, not, length, IsTrue};
+ghost use Rattle.std.specs.List.{list_all};
 ghost use Rattle.rdm_profile.specs.Fields.{have_sizes};
 ghost use Rattle.rdm_profile.specs.Profiles.{FollowStandards};
-ghost use Rattle.rdm_profile.specs.Standards.{are_words, is_choice, choice, names, numbers, rates, scenes, lock, pin, block, words, is_standards, is_shown, is_clear, is_only_standards, may_have, follows_at, follows};
+ghost use Rattle.rdm_profile.specs.Standards.{are_words, is_choice, choice, numbers, lock, pin, block, is_standards, is_shown, is_clear, is_only_standards, may_have, follows_at, follows};
+ghost use Rattle.rdm_profile_rules.specs.Standards.{fits};
 
-use crate::own_checks::is_lent;
+use crate::lines::{STANDARDS, Standard, StandardShape, is_lent};
 use rdm_profile::{Field, ParameterDef, Rights, Shape};
 
 /// Whether each has the commands and the data of its standard, if its PID is one of a standard.
@@ -27,34 +28,51 @@ pub fn follows(def: &ParameterDef) -> bool
 fn follows_at(pid: u16, def: &ParameterDef) -> bool
     ensures { result ≡ follows_at pid def.now }
 {
-    match pid {
-        0x0015 => may_be_cleared(def) && has_numbers(def, 6, &[2, 2, 2]),
-        0x0070 => is_read(def) && has_words(def, 6),
-        0x0140 => may_be_both(def) && has_block(def),
-        0x0141 => may_be_both(def) && has_numbers(def, 7, &[2, 2, 2, 1]),
-        0x0142 => may_be_both(def) && has_numbers(def, 7, &[2, 2, 2, 1]),
-        0x0340 => is_read(def) && has_numbers(def, 11, &[2, 2, 2, 2, 1, 1, 1]),
-        0x0341 => may_be_both(def) && has_numbers(def, 5, &[2, 2, 1]),
-        0x0342 => may_be_both(def) && has_numbers(def, 2, &[2]),
-        0x0343 => may_be_both(def) && has_choice(def),
-        0x0344 => is_read(def) && has_names(def),
-        0x0345 => may_be_both(def) && has_choice(def),
-        0x0346 => is_read(def) && has_names(def),
-        0x0347 => may_be_both(def) && has_choice(def),
-        0x0348 => is_read(def) && has_rates(def),
-        0x0440 => may_be_both(def) && has_numbers(def, 1, &[1]),
-        0x0603 => may_be_both(def) && has_numbers(def, 7, &[2, 1, 1, 1, 1, 1]),
-        0x0640 => may_be_both(def) && has_pin(def),
-        0x0641 => may_be_both(def) && has_lock(def),
-        0x0642 => is_read(def) && has_names(def),
-        0x1001 => is_ordered(def) && has_numbers(def, 1, &[1]),
-        0x1030 => is_ordered(def) && has_numbers(def, 8, &[2, 2, 2, 2]),
-        0x1040 => may_be_both(def) && has_numbers(def, 1, &[1]),
-        0x1041 => is_read(def) && has_numbers(def, 32, &[]),
-        0x1042 => may_be_both(def) && has_scenes(def),
-        0x1043 => may_be_both(def) && has_numbers(def, 1, &[1]),
-        0x1044 => may_be_both(def) && has_numbers(def, 1, &[1]),
-        _ => true,
+    follows_each(STANDARDS, pid, def)
+}
+
+/// Whether a parameter is as each of these lines of a PID says.
+fn follows_each(lines: &[Standard], pid: u16, def: &ParameterDef) -> bool
+    ensures { result ≡ list_all (λ s. not (s.pid == pid) || (may_have s.rights def.now.rights && fits s.shape def.now)) lines.now }
+{
+    lines
+        .iter()
+        .all(|line| line.pid != pid || follows_line(line, def))
+}
+
+/// Whether a parameter has commands and the data of a line.
+fn follows_line(line: &Standard, def: &ParameterDef) -> bool
+    ensures { result ≡ (may_have line.now.rights def.now.rights && fits line.now.shape def.now) }
+{
+    may_have(line.rights, def.rights) && fits(line.shape, def)
+}
+
+/// Whether the data of a parameter are these.
+fn fits(shape: StandardShape, def: &ParameterDef) -> bool
+    ensures { result ≡ fits shape def.now }
+{
+    match shape {
+        StandardShape::Numbers(size, sizes) => has_numbers(def, size, sizes),
+        StandardShape::Words(most) => are_words(def.shape, most),
+        StandardShape::Choice => has_choice(def),
+        StandardShape::Names => matches!(def.shape, Shape::Names),
+        StandardShape::Rates => matches!(def.shape, Shape::Rates),
+        StandardShape::Scenes => matches!(def.shape, Shape::Scenes),
+        StandardShape::Lock => has_lock(def),
+        StandardShape::Pin => has_pin(def),
+        StandardShape::Block => has_block(def),
+    }
+}
+
+/// Whether these rights give no command that the standard's don't.
+fn may_have(rights: Rights, own: Rights) -> bool
+    ensures { result ≡ may_have rights own }
+{
+    match rights {
+        Rights::Get => matches!(own, Rights::Get),
+        Rights::Set => matches!(own, Rights::Set),
+        Rights::Both => !is_clear(own),
+        Rights::Clear => matches!(own, Rights::Get | Rights::Clear),
     }
 }
 
@@ -90,27 +108,6 @@ fn has_choice(def: &ParameterDef) -> bool
     is_choice(def.shape) && def.low == 1
 }
 
-/// Whether it tells what these are called.
-fn has_names(def: &ParameterDef) -> bool
-    ensures { result ≡ names def.now }
-{
-    matches!(def.shape, Shape::Names)
-}
-
-/// Whether it tells what these are called, and the frequency of each.
-fn has_rates(def: &ParameterDef) -> bool
-    ensures { result ≡ rates def.now }
-{
-    matches!(def.shape, Shape::Rates)
-}
-
-/// Whether its data are those of each of several scenes.
-fn has_scenes(def: &ParameterDef) -> bool
-    ensures { result ≡ scenes def.now }
-{
-    matches!(def.shape, Shape::Scenes)
-}
-
 /// Whether its data are the number of a lock state, from 0.
 fn has_lock(def: &ParameterDef) -> bool
     ensures { result ≡ lock def.now }
@@ -142,43 +139,6 @@ fn is_shown(rights: Rights) -> bool
     }
 }
 
-/// Whether the parameter has a GET alone.
-fn is_read(def: &ParameterDef) -> bool
-    ensures { result ≡ may_have rights.Get def.now.rights }
-{
-    match def.rights {
-        Rights::Get => true,
-        Rights::Set | Rights::Both | Rights::Clear => false,
-    }
-}
-
-/// Whether the parameter has a SET alone.
-fn is_ordered(def: &ParameterDef) -> bool
-    ensures { result ≡ may_have rights.Set def.now.rights }
-{
-    match def.rights {
-        Rights::Set => true,
-        Rights::Get | Rights::Both | Rights::Clear => false,
-    }
-}
-
-/// Whether the parameter has a GET and a SET with data, or one of them.
-fn may_be_both(def: &ParameterDef) -> bool
-    ensures { result ≡ may_have rights.Both def.now.rights }
-{
-    !is_clear(def.rights)
-}
-
-/// Whether the parameter has a GET alone, or a SET without data too.
-fn may_be_cleared(def: &ParameterDef) -> bool
-    ensures { result ≡ may_have rights.Clear def.now.rights }
-{
-    match def.rights {
-        Rights::Get | Rights::Clear => true,
-        Rights::Set | Rights::Both => false,
-    }
-}
-
 /// Whether a SET clears counts, and has no data.
 fn is_clear(rights: Rights) -> bool
     ensures { result ≡ is_clear rights }
@@ -189,13 +149,7 @@ fn is_clear(rights: Rights) -> bool
     }
 }
 
-/// Whether its data are a list of numbers of two slots: one at least, and so many at most.
-fn has_words(def: &ParameterDef, most: u8) -> bool
-    ensures { result ≡ words most def.now }
-{
-    are_words(def.shape, most)
-}
-
+/// Whether data are a list of numbers of two slots: one at least, and so many at most.
 fn are_words(shape: Shape, most: u8) -> bool
     ensures { result ≡ are_words most shape }
 {

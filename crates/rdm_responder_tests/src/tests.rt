@@ -9,6 +9,7 @@ mod cuts;
 mod discovery;
 mod firmware;
 mod identify;
+mod judge;
 mod making;
 mod panel;
 mod parameters;

@@ -17,7 +17,7 @@ use Rattle.rdm_script.specs.declared.dialect.Spelling.TheVariants.{Strict, Frien
 use Rattle.rdm_script.specs.Decimals.{number_up_to}
 use Rattle.rdm_table.specs.declared.kind.Kind.{Kind}
 use Rattle.rdm_params.specs.Table.Kinds.{name_of, kinds, kind_named}
-use Rattle.rdm_params.specs.Table.Names.{named_in, dimmer_names, other_names, pid_named}
+use Rattle.rdm_params.specs.Table.Names.{named_in, lent_names, other_names, pid_named}
 use Rattle.rdm_script.specs.Grammar.{is_plain, sub_named, sub_in, own_named, pid_by_name, pid_in, bytes_load_in, is_shown, is_quoted, between, quoted_in, load_in}
 use Rattle.rdm_script.specs.Spelling.{SpellsCount, SpellsSub, SpellsPid, SpellsQuoted, SpellsLoad}
 use Rattle.rdm_script.proofs.DecimalSpellings.{number_read, number_again}
@@ -136,7 +136,7 @@ no_kind text four = not_found kinds refl text four
 
 no_name : (text : List ℕ) → length text ≡ 4 → pid_named text ≡ None
 unfolding pid_named
-no_name text four = rw (no_kind text four) (rw (not_in other_names refl text four) (not_in dimmer_names refl text four))
+no_name text four = rw (no_kind text four) (rw (not_in other_names refl text four) (not_in lent_names refl text four))
 
 pub pid_read : (spelling : Spelling) (own : List ParameterDef) (text : List ℕ) (n : ℕ) → pid_in spelling own text ≡ Some n → SpellsPid spelling own text n
 unfolding pid_in

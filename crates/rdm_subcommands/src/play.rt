@@ -5,17 +5,21 @@ ghost use Rattle.std.specs.Io.KnownBytes.{Appends};
 ghost use Rattle.rdm_script.specs.Playing.{IsPlayOf, NamesStopLine};
 ghost use Rattle.rdm_script.specs.Rules.{HasDone};
 ghost use Rattle.rdm_script.specs.declared.dialect.Spelling.TheVariants.{Friendly};
-ghost use Rattle.rdm_subcommands.specs.Scenes.{scene_on, ArePlayed, IsPlayed};
+ghost use Rattle.rdm_subcommands.specs.Scenes.{scene_on, ArePlayed, AreTextPlayed, IsTextPlayed};
+ghost use Rattle.rdm_trace.specs.Traces.{pieces_of};
+ghost use Rattle.rdm_expect.specs.Sheets.{expectations_of};
 ghost use Rattle.rdm_host.specs.Sources.{IsAskedFor};
 
 use crate::told::Told;
 use clap::ArgMatches;
 use rdm_chart::chart_of;
+use rdm_expect::Expectation;
 use rdm_fixture::Fixture;
 use rdm_host::fault::Fault;
 use rdm_host::fixture::FixtureFile;
 use rdm_host::host::Host;
 use rdm_host::source::{OUTPUT, Source, print, refuse_clashes, save, without_mark};
+use rdm_results::{Results, sheet_in};
 use rdm_script::{
     CONTROLLER, DemoPanel, MOST_BYTES, Refusal, RuledPart, Spelling, Stage, Unplayed, Wanted,
     play_demonstration, play_script, ruled_parts_fit,
@@ -38,7 +42,27 @@ pub fn run<'a, H: Host>(rt: H, asked: &ArgMatches<'a>) -> Result<(), Fault<'a>> 
     setting.play(rt, asked, script)
 }
 
-/// Draws a trace, and prints it or its words. A chart on standard output stands in the place of the trace.
+/// Tells what came of what is expected of a script, and writes it to the file that is asked for. The report is printed behind the trace, or
+/// on standard error where something else is printed in its place.
+fn judge_played<'a, H: Host>(
+    rt: H,
+    asked: &ArgMatches<'a>,
+    name: &str,
+    played: &Played,
+) -> Result<(), Fault<'a>> {
+    let path = asked.get_str(rdm_usage::JUNIT);
+    let results = Results::of(rt, path, name, &played.expectations, &played.lines)?;
+    let report = results.report.as_str();
+    if path == Some("-") || asked.get_str(rdm_usage::CHART) == Some("-") {
+        // Nobody is left to be told if this can't be written.
+        let _ = eprint!(rt; "{report}");
+    } else {
+        print(rt, report.as_bytes())?;
+    }
+    results.end()
+}
+
+/// Draws a trace, and prints it or its words. A chart on standard output stands in the place of the trace, and so do the results.
 fn show<'a, H: Host>(rt: H, asked: &ArgMatches<'a>, played: &Played) -> Result<(), Fault<'a>> {
     let lines = played.lines.as_slice();
     let known = played.told.known();
@@ -48,6 +72,9 @@ fn show<'a, H: Host>(rt: H, asked: &ArgMatches<'a>, played: &Played) -> Result<(
         if path == "-" {
             return Ok(());
         }
+    }
+    if asked.get_str(rdm_usage::JUNIT) == Some("-") {
+        return Ok(());
     }
     let text = if asked.get_flag(rdm_usage::WORDS) {
         words_of_lines(rt.alloc(), lines, &known)?
@@ -65,13 +92,24 @@ struct Script<'s, 'a> {
     text: &'s [u8],
 }
 
-/// A script that was played.
+/// The run of a script.
+#[derive(Drop)]
+struct Traced {
+    /// The lines of its trace.
+    lines: Vec<Line>,
+    /// The fixture on which it was played.
+    told: Told,
+}
+
+/// A text whose script was played.
 #[derive(Drop)]
 struct Played {
     /// The lines of its trace.
     lines: Vec<Line>,
     /// The fixture on which it was played.
     told: Told,
+    /// What is expected of it.
+    expectations: Vec<Expectation>,
 }
 
 /// What a script is played on.
@@ -90,42 +128,65 @@ impl<'a> Setting<'a> {
         Ok(Setting { file })
     }
 
-    /// Plays a script, and prints what is asked for.
+    /// Plays the script of a text, prints what is asked for, and tells what came of what is expected.
     fn play<H: Host>(
         &self,
         rt: H,
         asked: &ArgMatches<'a>,
         script: Script<'_, 'a>,
     ) -> Result<(), Fault<'a>> {
-        if asked.contains_id(rdm_usage::CHART) || asked.get_flag(rdm_usage::WORDS) {
+        if asked.contains_id(rdm_usage::CHART)
+            || asked.get_flag(rdm_usage::WORDS)
+            || asked.get_str(rdm_usage::JUNIT) == Some("-")
+        {
             let played = self.lines(rt, script)?;
-            return show(rt, asked, &played);
+            show(rt, asked, &played)?;
+            return judge_played(rt, asked, script.name, &played);
         }
         let mut writer = io::writer(&rt);
-        self.write_trace(rt, script, &mut writer)
+        let played = self.write_trace(rt, script, &mut writer)?;
+        judge_played(rt, asked, script.name, &played)
     }
 
-    /// Plays a script, and writes its trace.
+    /// Plays the script of a text, and writes its trace.
     fn write_trace<H: Host, W: Write>(
         &self,
         rt: H,
         script: Script<'_, 'a>,
         writer: &mut W,
-    ) -> Result<(), Fault<'a>>
-        ensures ok { OnOk result ((text : List ℕ) × IsPlayed self.now.file script.entry.text.now text ×
+    ) -> Result<Played, Fault<'a>>
+        ensures ok { OnOk result ((text : List ℕ) × IsTextPlayed self.now.file script.entry.text.now text ×
             Appends (W.contents writer.old) (W.contents writer.new) text) }
     {
         let played = self.lines(rt, script)?;
         let text = text_of(rt.alloc(), played.lines.as_slice())?;
         match writer.write_all(text.as_slice()) {
-            Ok(()) => Ok(()),
+            Ok(()) => Ok(played),
             Err(error) => Err(Fault::Io(OUTPUT, error)),
         }
     }
 
-    /// Plays a script, and gives the lines of its trace.
+    /// Plays the script of a text, and gives the lines of its trace. An expectation that isn't valid is refused before that.
     fn lines<H: Host>(&self, rt: H, script: Script<'_, 'a>) -> Result<Played, Fault<'a>>
-        ensures ok { IfOk result (λ played. ArePlayed self.now.file script.entry.text.now played.lines.items) }
+        ensures ok { IfOk result (λ played. AreTextPlayed self.now.file script.entry.text.now played.lines.items) }
+        ensures expected { IfOk result (λ played. played.expectations.items ≡ expectations_of (pieces_of script.entry.text.now)) }
+    {
+        let sheet = sheet_in(rt.alloc(), script.name, script.text)?;
+        let plain = Script {
+            name: script.name,
+            text: sheet.script.as_slice(),
+        };
+        let run = self.run(rt, plain)?;
+        Ok(Played {
+            lines: run.lines,
+            told: run.told,
+            expectations: sheet.expectations,
+        })
+    }
+
+    /// Plays a script.
+    fn run<H: Host>(&self, rt: H, script: Script<'_, 'a>) -> Result<Traced, Fault<'a>>
+        ensures ok { IfOk result (λ run. ArePlayed self.now.file script.entry.text.now run.lines.items) }
     {
         match &self.file {
             Some(file) => lines_on(rt, file, script),
@@ -139,8 +200,8 @@ fn lines_on<'a, H: Host>(
     rt: H,
     file: &FixtureFile<'a>,
     script: Script<'_, 'a>,
-) -> Result<Played, Fault<'a>>
-    ensures ok { IfOk result (λ played. ArePlayed (Some file.now) script.entry.text.now played.lines.items) }
+) -> Result<Traced, Fault<'a>>
+    ensures ok { IfOk result (λ run. ArePlayed (Some file.now) script.entry.text.now run.lines.items) }
 {
     let fixture = file.fixture(rt)?;
     if fixture.uid == CONTROLLER {
@@ -148,18 +209,18 @@ fn lines_on<'a, H: Host>(
     }
     let told = Told::of(rt.alloc(), &fixture)?;
     match play_on(rt, fixture, script.text) {
-        Ok(lines) => Ok(Played { lines, told }),
+        Ok(lines) => Ok(Traced { lines, told }),
         Err(why) => Err(told.fault(script.name, script.text, why)),
     }
 }
 
 /// Plays a script on the fixture of the demonstration.
-fn demonstrated<'a, H: Host>(rt: H, script: Script<'_, 'a>) -> Result<Played, Fault<'a>>
-    ensures ok { IfOk result (λ played. ArePlayed None script.entry.text.now played.lines.items) }
+fn demonstrated<'a, H: Host>(rt: H, script: Script<'_, 'a>) -> Result<Traced, Fault<'a>>
+    ensures ok { IfOk result (λ run. ArePlayed None script.entry.text.now run.lines.items) }
 {
     let told = Told::demonstration();
     match play_demonstration(rt, rt.alloc(), Spelling::Friendly, script.text) {
-        Ok(lines) => Ok(Played { lines, told }),
+        Ok(lines) => Ok(Traced { lines, told }),
         Err(why) => Err(without_file(told.fault(script.name, script.text, why))),
     }
 }

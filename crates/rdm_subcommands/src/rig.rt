@@ -140,7 +140,7 @@ pub(crate) fn live<'a, H: Host>(
 }
 
 /// What the sensors show of which something is said.
-fn shown_by(profile: &Profile, start: &Starting) -> [Option<[u8; 9]>; 8] {
+pub(crate) fn shown_by(profile: &Profile, start: &Starting) -> [Option<[u8; 9]>; 8] {
     let mut shown = [None; 8];
     for number in 0..8u8 {
         let n = usize::from(number);
@@ -154,17 +154,21 @@ fn shown_by(profile: &Profile, start: &Starting) -> [Option<[u8; 9]>; 8] {
 
 /// Places what the counters show, unless it is what they show anyway.
 fn place_counters(live: &mut LiveFixture, start: &Starting) {
-    let counters = [
-        (Kind::DeviceHours, start.device_hours),
-        (Kind::LampHours, start.lamp_hours),
-        (Kind::LampStrikes, start.lamp_strikes),
-        (Kind::DevicePowerCycles, start.device_power_cycles),
-    ];
-    for (kind, count) in counters {
+    for (kind, count) in counters(start) {
         if count != 0 {
             place(live, kind, &count.to_be_bytes());
         }
     }
+}
+
+/// What the counters of a fixture show when it starts.
+pub(crate) fn counters(start: &Starting) -> [(Kind, u32); 4] {
+    [
+        (Kind::DeviceHours, start.device_hours),
+        (Kind::LampHours, start.lamp_hours),
+        (Kind::LampStrikes, start.lamp_strikes),
+        (Kind::DevicePowerCycles, start.device_power_cycles),
+    ]
 }
 
 /// Places a value of the root. A file says nothing of what its fixture lacks, so it isn't refused.

@@ -1,37 +1,50 @@
-//! `felosumay words`: what a trace, a capture or frames say, in words.
+//! `felosumay words`: what a trace, a capture or frames say, in words; or their frames as a capture.
 
-use crate::capture::trace_of;
+use crate::capture::sound_to_its_end;
+use crate::printed::Printed;
 use clap::ArgMatches;
-use rdm_capture::is_capture;
+use rdm_capture::{is_capture, read_capture};
 use rdm_host::fault::Fault;
 use rdm_host::fixture::FixtureFile;
 use rdm_host::host::Host;
 use rdm_host::source::{Source, print, refuse_clashes, without_mark};
-use rdm_words::{Before, Known, put_text_line, words};
+use rdm_words::Known;
 use std::fs;
 use std::io::{BufRead, BufReader, Read};
 
 /// How many bytes a trace may have that is read whole, and a line of one that isn't: 64 MiB.
 pub const MOST_BYTES: u64 = 67108864;
 
-/// Reads the trace that is named, and prints its words. Without a fixture's file, nothing is known of any fixture.
+/// How many bytes tell a capture from a text.
+const FRONT_BYTES: u64 = 24;
+
+/// Reads the trace that is named, and prints its words, or its frames as a capture. Without a fixture's file, nothing is known of any
+/// fixture.
 pub fn run<'a, H: Host>(rt: H, asked: &ArgMatches<'a>) -> Result<(), Fault<'a>> {
     refuse_clashes(asked)?;
     let source = Source::named(asked.get_str(rdm_usage::INPUT));
+    if asked.get_str(rdm_usage::FORMAT) == Some(rdm_usage::PCAPNG) {
+        return print_as(rt, source, &mut Printed::capture());
+    }
     match FixtureFile::asked_for(rt, asked)? {
         Some(file) => {
             let fixture = file.fixture(rt)?;
-            print_words(rt, source, &Known::of(fixture.uid, &fixture.profile))
+            let known = Known::of(fixture.uid, &fixture.profile);
+            print_as(rt, source, &mut Printed::words(&known))
         }
-        None => print_words(rt, source, &Known::nothing()),
+        None => print_as(rt, source, &mut Printed::words(&Known::nothing())),
     }
 }
 
-/// Prints the words of a trace as it is read.
-fn print_words<'a, H: Host>(rt: H, source: Source<'a>, known: &Known<'_>) -> Result<(), Fault<'a>> {
+/// Prints a trace as it is read.
+fn print_as<'a, H: Host>(
+    rt: H,
+    source: Source<'a>,
+    printed: &mut Printed<'_>,
+) -> Result<(), Fault<'a>> {
     let name = source.name();
     let path = match source {
-        Source::Input => return print_all(rt, name, &mut rt.reader(), known),
+        Source::Input => return print_all(rt, name, &mut rt.reader(), printed),
         Source::File(path) => path,
     };
     let file = match fs::open(&rt, path) {
@@ -39,88 +52,129 @@ fn print_words<'a, H: Host>(rt: H, source: Source<'a>, known: &Known<'_>) -> Res
         Err(error) => return Err(Fault::Io(name, error)),
     };
     match BufReader::new(rt.alloc(), file) {
-        Ok(mut reader) => print_all(rt, name, &mut reader, known),
+        Ok(mut reader) => print_all(rt, name, &mut reader, printed),
         Err(error) => Err(Fault::Io(name, error)),
     }
 }
 
-/// Prints the words of a trace line by line, or those of a capture, which is read whole.
+/// Prints a trace line by line, or a capture, which is read whole.
 fn print_all<'a, H: Host, R: BufRead>(
     rt: H,
     name: &'a str,
     reader: &mut R,
-    known: &Known<'_>,
+    printed: &mut Printed<'_>,
 ) -> Result<(), Fault<'a>> {
-    if !begins_as_capture(name, reader)? {
-        return print_lines(rt, name, reader, known);
+    let mut front = Vec::new(rt.alloc());
+    if may_be_capture(name, reader)? {
+        read_more(name, reader, FRONT_BYTES, &mut front)?;
     }
-    let mut capture = Vec::new(rt.alloc());
-    read_rest(name, reader, &mut capture)?;
-    let trace = trace_of(rt.alloc(), capture.as_slice())?;
-    print(rt, words(rt.alloc(), trace.as_slice(), known)?.as_slice())
+    if !is_capture(front.as_slice()) {
+        return print_lines(rt, name, front.as_slice(), reader, printed);
+    }
+    // One byte more is read, which shows that there are too many.
+    read_more(name, reader, MOST_BYTES + 1, &mut front)?;
+    if front.len() as u64 > MOST_BYTES {
+        return Err(Fault::TooLong(name, MOST_BYTES));
+    }
+    print_capture(rt, name, front.as_slice(), printed)
 }
 
-/// Whether a capture comes. Nothing is taken.
-fn begins_as_capture<'a, R: BufRead>(name: &'a str, reader: &mut R) -> Result<bool, Fault<'a>> {
+/// Prints the packets of a capture. Where it makes no sense any more, they are printed first.
+fn print_capture<'a, H: Host>(
+    rt: H,
+    name: &'a str,
+    capture: &[u8],
+    printed: &Printed<'_>,
+) -> Result<(), Fault<'a>> {
+    let reading = read_capture(rt.alloc(), capture)?;
+    let text = printed.packets(rt.alloc(), reading.packets.as_slice())?;
+    print(rt, text.as_slice())?;
+    sound_to_its_end(name, reading.fault)
+}
+
+/// Whether the next byte is one with which a capture can begin. No trace has a line that begins with one, but an empty line does. Nothing
+/// is taken.
+fn may_be_capture<'a, R: BufRead>(name: &'a str, reader: &mut R) -> Result<bool, Fault<'a>> {
     match reader.fill_buf() {
-        Ok(front) => Ok(is_capture(front)),
+        Ok([0x0A | 0x4D | 0xA1 | 0xD4, ..]) => Ok(true),
+        Ok(_) => Ok(false),
         Err(error) => Err(Fault::Io(name, error)),
     }
 }
 
-/// Reads all that comes into a list that is empty. More than 64 MiB are rejected.
-fn read_rest<'a, R: BufRead>(
+/// Reads at most so many bytes, and puts them at the end of a list.
+fn read_more<'a, R: BufRead>(
     name: &'a str,
     reader: &mut R,
+    most: u64,
     bytes: &mut Vec<u8>,
 ) -> Result<(), Fault<'a>> {
-    // One byte more is read, which shows that there are too many.
-    let mut limited = reader.by_ref().take(MOST_BYTES + 1);
-    match limited.read_to_end(bytes) {
-        Ok(count) if count as u64 > MOST_BYTES => Err(Fault::TooLong(name, MOST_BYTES)),
+    match reader.by_ref().take(most).read_to_end(bytes) {
         Ok(_) => Ok(()),
         Err(error) => Err(Fault::Io(name, error)),
     }
 }
 
-/// Prints the words of each line as it comes, so that no more than one line is held.
+/// Prints each line as it comes, so that no more than one is held. The text begins with these bytes, which were read before.
 fn print_lines<'a, H: Host, R: BufRead>(
     rt: H,
     name: &'a str,
+    front: &[u8],
     reader: &mut R,
-    known: &Known<'_>,
+    printed: &mut Printed<'_>,
 ) -> Result<(), Fault<'a>> {
-    let mut before = Before::nothing();
     let mut line = Vec::new(rt.alloc());
-    let mut said = Vec::new(rt.alloc());
-    for number in 0..u64::MAX {
+    let mut text = Vec::new(rt.alloc());
+    let mut done: usize = 0;
+    printed.put_start(&mut text)?;
+    for number in 0..usize::MAX {
+        print(rt, text.as_slice())?;
         line.clear();
-        said.clear();
-        if read_line(name, reader, &mut line)? == 0 {
+        text.clear();
+        let rest = front.get(done..).unwrap_or(&[]);
+        let count = read_line(name, rest, reader, &mut line)?;
+        if count == 0 {
             return Ok(());
         }
-        let text = match number {
+        done = done.saturating_add(count);
+        let said = match number {
             0 => without_mark(line.as_slice()),
             _ => line.as_slice(),
         };
-        put_text_line(&mut said, &mut before, without_end(text), known)?;
-        print(rt, said.as_slice())?;
+        if !printed.put_line(&mut text, without_end(said))? {
+            return Err(Fault::NoTrace(name, number + 1));
+        }
     }
     Ok(())
 }
 
-/// Reads the next line, with its end, into a list that is empty, and gives how many bytes it has: none behind the last.
+/// Reads the next line, with its end, into a list that is empty, and gives how many bytes it has: none behind the last. The text goes on
+/// with these bytes, which were read before.
 fn read_line<'a, R: BufRead>(
     name: &'a str,
+    front: &[u8],
     reader: &mut R,
     line: &mut Vec<u8>,
 ) -> Result<usize, Fault<'a>> {
+    let taken = first_line(front);
+    line.extend_from_slice(taken)?;
+    if let [.., b'\n'] = taken {
+        return Ok(taken.len());
+    }
     // One byte more is read, which shows that there are too many.
     let mut limited = reader.by_ref().take(MOST_BYTES + 1);
     match limited.read_until(b'\n', line) {
-        Ok(count) if count as u64 > MOST_BYTES => Err(Fault::TooLong(name, MOST_BYTES)),
-        Ok(count) => Ok(count),
+        Ok(_) if line.len() as u64 > MOST_BYTES => Err(Fault::TooLong(name, MOST_BYTES)),
+        Ok(_) => Ok(line.len()),
         Err(error) => Err(Fault::Io(name, error)),
+    }
+}
+
+/// The bytes up to the first LF, with it; all of them without one.
+fn first_line(bytes: &[u8]) -> &[u8] {
+    match bytes.iter().position(|byte| *byte == b'\n') {
+        Some(end) => &bytes[..end + 1],
+        None => bytes,
     }
 }
 

@@ -1,9 +1,9 @@
 pub mod BareCommands
 pub mod Bools
 pub mod Changes
-pub mod DimmerNames
 pub mod FactoryRows
 pub mod KindNames
+pub mod RowNames
 pub mod Rows
 pub mod SubSteps
 pub mod Supported

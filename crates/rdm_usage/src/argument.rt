@@ -23,6 +23,8 @@ pub(crate) enum Form {
     PlaceOf(&'static [&'static str]),
     /// Any number of words, also negative numbers.
     Words,
+    /// One word or more.
+    RequiredWords,
     /// `--ID`, without a value.
     Flag,
     /// `--ID TEXT`.
@@ -106,6 +108,7 @@ fn made<'a>(alloc: Global, argument: &Argument) -> Arg<'a> {
         Form::Words => place(alloc, argument)
             .num_args(0..)
             .allow_negative_numbers(true),
+        Form::RequiredWords => place(alloc, argument).num_args(1..).required(true),
         Form::Flag => described(alloc, argument)
             .long(argument.id)
             .action(ArgAction::SetTrue),

@@ -3,37 +3,82 @@
 use crate::argument::{Argument, Form, Reach, arguments, push_subcommands};
 use crate::usage::{
     BY, BY_ADDRESS, BY_LABEL, BY_MODEL, BY_UID, CSV, DATA, FILE, FIXTURE, FORMAT, FROM, GAP, HTML,
-    IN_WORDS, JSON, LIMIT, OFF, ON, PARAMETER, PLAIN, PORT, SCRIPT, SUB, SWITCH, TABLE, TRACE, UID,
-    WORDS, YES,
+    IN_WORDS, INPUT, JSON, JUNIT, LIMIT, OFF, ON, PARAMETER, PCAPNG, PLAIN, PORT, RESULTS, SCRIPT,
+    SUB, SWITCH, TABLE, TRACE, TRACE_AS, UID, WORDS, YES,
 };
 use clap::Command;
 use std::alloc::{AllocError, Global};
 
+const THE_PORT: Argument = Argument {
+    id: PORT,
+    form: Form::Option,
+    value: "PATH",
+    help: "The serial device of the interface, in raw mode with\nmin 0 time 1; - for standard input and output",
+};
+
+const TIME_LIMIT: Argument = Argument {
+    id: LIMIT,
+    form: Form::Number16(1, 65535),
+    value: "MS",
+    help: "The time limit for each answer of the interface, in\nmilliseconds; 1000 by default",
+};
+
+const TRACE_FILE: Argument = Argument {
+    id: TRACE,
+    form: Form::Option,
+    value: "FILE",
+    help: "Also write what is sent and heard to this file,\nas a trace",
+};
+
+const TRACE_FORM: Argument = Argument {
+    id: TRACE_AS,
+    form: Form::OneOf(&[TRACE, PCAPNG]),
+    value: "FORM",
+    help: "The format of that file: a trace, or a capture of the\nframes; trace by default\n",
+};
+
+const SENDER: Argument = Argument {
+    id: FROM,
+    form: Form::Option,
+    value: "UID",
+    help: "The UID that sends; 7FF0:46454C4F if omitted",
+};
+
 /// What each errand takes.
 const OF_LINE: &[Argument] = &[
-    Argument {
-        id: PORT,
-        form: Form::Option,
-        value: "PATH",
-        help: "The serial device of the interface, in raw mode with\nmin 0 time 1; - for standard input and output",
-    },
-    Argument {
-        id: LIMIT,
-        form: Form::Number16(1, 65535),
-        value: "MS",
-        help: "The time limit for each answer of the interface, in\nmilliseconds; 1000 by default",
-    },
-    Argument {
-        id: TRACE,
-        form: Form::Option,
-        value: "FILE",
-        help: "Also write what is sent and heard to this file,\nas a trace",
-    },
+    THE_PORT,
+    TIME_LIMIT,
+    TRACE_FILE,
+    TRACE_FORM,
     Argument {
         id: FIXTURE,
         form: Form::Each,
         value: "FILE",
         help: "A fixture file for units and texts; can be repeated.\nWithout it, the devices are asked",
+    },
+];
+
+/// What `felosumay test` takes.
+pub(crate) const OF_TEST: &[Argument] = &[
+    ONE_DEVICE,
+    Argument {
+        id: INPUT,
+        form: Form::RequiredWords,
+        value: "SCRIPT",
+        help: "The scripts to play, such as suite/*.script",
+    },
+    Argument {
+        form: Form::RequiredOption,
+        ..THE_PORT
+    },
+    TIME_LIMIT,
+    TRACE_FILE,
+    SENDER,
+    Argument {
+        id: JUNIT,
+        form: Form::Option,
+        value: "FILE.xml",
+        help: "Also write what came of each expect line to this file,\nas JUnit XML; if -, print it instead of the report",
     },
 ];
 
@@ -188,7 +233,9 @@ const OF_PLAY: &[Argument] = &[
         value: "UID",
         help: "The device to play it on, as 7FF0:00000001",
     },
+    SENDER,
     IN_WORDS,
+    RESULTS,
 ];
 
 /// What `felosumay line` does: the name of each errand, what it is, and what it takes.

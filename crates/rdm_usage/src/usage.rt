@@ -1,6 +1,7 @@
 //! The command line: its subcommands and what each takes.
 
 use crate::argument::{Argument, Form, push_subcommands};
+use crate::line::OF_TEST;
 use clap::error::ErrorKind;
 use clap::{ArgMatches, Command, Error};
 use rdm_frame::standard::MOST_SUB_DEVICES;
@@ -12,6 +13,8 @@ pub const FIXTURE: &str = "fixture";
 pub const WORDS: &str = "words";
 /// The option that names a file for the chart of a run.
 pub const CHART: &str = "chart";
+/// The option that names a file for what came of the expectations of a script.
+pub const JUNIT: &str = "junit";
 /// The option that names the file of a chart.
 pub const OUTPUT: &str = "output";
 /// The argument that names the text that is read.
@@ -34,8 +37,12 @@ pub const FIRST: &str = "first";
 pub const RUBBISH: &str = "rubbish";
 /// The option that names the port of an interface.
 pub const PORT: &str = "port";
-/// The option that names a file for the trace of a line.
+/// The option that names a file for the trace of a line; and its format, unless something else is asked for.
 pub const TRACE: &str = "trace";
+/// The option for the format of that file.
+pub const TRACE_AS: &str = "trace-as";
+/// Frames as a capture, which Wireshark opens.
+pub const PCAPNG: &str = "pcapng";
 /// The option for how long an interface is waited for.
 pub const LIMIT: &str = "limit";
 /// The argument that names a device.
@@ -68,7 +75,7 @@ pub const JSON: &str = "json";
 pub const HTML: &str = "html";
 /// A value alone, without words.
 pub const PLAIN: &str = "plain";
-/// The option for where something comes from: the first start address, or a file.
+/// The option for where something comes from: the first start address, a file, or the UID of the console.
 pub const FROM: &str = "from";
 /// The option for how many slots stay free between two devices.
 pub const GAP: &str = "gap";
@@ -82,7 +89,7 @@ pub const SWITCH: &str = "switch";
 pub const ON: &str = "on";
 /// It doesn't.
 pub const OFF: &str = "off";
-/// In place of a UID: all devices of the line.
+/// In place of a UID: all devices of the line. As an option: all replies, and not only the wrong ones.
 pub const ALL: &str = "all";
 
 /// How many fixtures there are on a line at most.
@@ -102,7 +109,7 @@ const TRACE_TEXT: Argument = Argument {
     id: INPUT,
     form: Form::Place,
     value: "TRACE",
-    help: "The trace; standard input if omitted or -",
+    help: "The trace, or a pcap or pcapng capture; standard\ninput if omitted or -",
 };
 
 const FIXTURE_FOR_WORDS: Argument = Argument {
@@ -117,6 +124,20 @@ pub(crate) const IN_WORDS: Argument = Argument {
     form: Form::Flag,
     value: "",
     help: "Print the trace in words",
+};
+
+pub(crate) const RESULTS: Argument = Argument {
+    id: JUNIT,
+    form: Form::Option,
+    value: "FILE.xml",
+    help: "Also write what came of each expect line to this file,\nas JUnit XML; if -, print it instead of the trace",
+};
+
+const SUB_DEVICES: Argument = Argument {
+    id: SUBS,
+    form: Form::Number16(0, MOST_SUB_DEVICES),
+    value: "N",
+    help: "The number of sub-devices; if omitted, all of the\nfile's, or none without a file",
 };
 
 /// What `felosumay play` takes.
@@ -135,10 +156,20 @@ const OF_PLAY: &[Argument] = &[
         value: "FILE.svg",
         help: "Also write a chart of the trace to this file;\nif -, print the chart instead of the trace",
     },
+    RESULTS,
 ];
 
 /// What `felosumay words` takes.
-const OF_WORDS: &[Argument] = &[TRACE_TEXT, FIXTURE_FOR_WORDS];
+const OF_WORDS: &[Argument] = &[
+    TRACE_TEXT,
+    FIXTURE_FOR_WORDS,
+    Argument {
+        id: FORMAT,
+        form: Form::OneOf(&[WORDS, PCAPNG]),
+        value: "FORMAT",
+        help: "The output format: words, or a capture of the frames;\nwords by default\n",
+    },
+];
 
 /// What `felosumay chart` takes.
 const OF_CHART: &[Argument] = &[
@@ -150,6 +181,24 @@ const OF_CHART: &[Argument] = &[
         help: "The file to write the chart to; standard output\nif omitted or -",
     },
     FIXTURE_FOR_WORDS,
+];
+
+/// What `felosumay check` takes.
+const OF_CHECK: &[Argument] = &[
+    TRACE_TEXT,
+    Argument {
+        id: FIXTURE,
+        form: Form::Option,
+        value: "FILE",
+        help: "The fixture that replied; - for standard input,\nthe demonstration fixture by default",
+    },
+    SUB_DEVICES,
+    Argument {
+        id: ALL,
+        form: Form::Flag,
+        value: "",
+        help: "Also print the replies that are right, and those that\ncan't be judged",
+    },
 ];
 
 /// What `felosumay fixture` takes.
@@ -196,12 +245,7 @@ const OF_WIDGET: &[Argument] = &[
         value: "RULE",
         help: "The bytes on the line if several answer at once;\nall-bits by default\n",
     },
-    Argument {
-        id: SUBS,
-        form: Form::Number16(0, MOST_SUB_DEVICES),
-        value: "N",
-        help: "The number of sub-devices; if omitted, all of the\nfile's, or none without a file",
-    },
+    SUB_DEVICES,
     Argument {
         id: SPEED,
         form: Form::Number32(1, 1000000),
@@ -225,10 +269,19 @@ const SUBCOMMANDS: &[(&str, &str, &[Argument])] = &[
     ),
     (
         "words",
-        "Decode a trace, or frames in hexadecimal digits, into words",
+        "Decode a trace, frames in hexadecimal digits or a capture",
         OF_WORDS,
     ),
-    ("chart", "Draw a trace as a sequence chart in SVG", OF_CHART),
+    (
+        "chart",
+        "Draw a trace or a capture as a sequence chart in SVG",
+        OF_CHART,
+    ),
+    (
+        "check",
+        "Check the replies in a trace or a capture against the reply rules",
+        OF_CHECK,
+    ),
     (
         "fixture",
         "Check a fixture file and print what a controller will find",
@@ -238,6 +291,11 @@ const SUBCOMMANDS: &[(&str, &str, &[Argument])] = &[
         "parameters",
         "List a fixture's parameters and the data that they accept",
         OF_PARAMETERS,
+    ),
+    (
+        "test",
+        "Test a device on a line with scripts, such as those of suite/",
+        OF_TEST,
     ),
     (
         "widget",
@@ -250,19 +308,28 @@ const SUBCOMMANDS: &[(&str, &str, &[Argument])] = &[
 pub fn matches<'a>(alloc: Global, words: &'a [String]) -> Result<ArgMatches<'a>, Error> {
     let matches = command(alloc)?.try_get_matches_from(words)?;
     match matches.subcommand() {
-        Some(("line", asked)) if asked.get_str(PORT).is_none() => Err(no_port(alloc)?),
+        Some(("line", asked)) if asked.get_str(PORT).is_none() => Err(missing(
+            alloc,
+            "the following required arguments were not provided:\n  --port <PATH>",
+        )?),
+        Some(("line", asked)) if is_without_trace(asked) => Err(missing(
+            alloc,
+            "the following required arguments were not provided:\n  --trace <FILE>",
+        )?),
         _ => Ok(matches),
     }
 }
 
-/// The error of a line without its port. An option that may also stand behind an errand can't be required by the parser.
-fn no_port(alloc: Global) -> Result<Error, AllocError> {
+/// Whether a format is asked for, and no trace.
+fn is_without_trace(asked: &ArgMatches<'_>) -> bool {
+    asked.contains_id(TRACE_AS) && asked.get_str(TRACE).is_none()
+}
+
+/// The error of a line without an argument that it needs. An option that may also stand behind an errand can't be required by the parser.
+fn missing(alloc: Global, message: &str) -> Result<Error, AllocError> {
     crate::line::command(alloc)?
         .bin_name("felosumay line")?
-        .error(
-            ErrorKind::MissingRequiredArgument,
-            "the following required arguments were not provided:\n  --port <PATH>",
-        )
+        .error(ErrorKind::MissingRequiredArgument, message)
 }
 
 /// The program, with its subcommands.

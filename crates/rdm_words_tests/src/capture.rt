@@ -1,6 +1,11 @@
 //! What no clause says: captures that were made by hand, byte for byte, with the packets that they have.
 
-use rdm_capture::{CaptureFault, Direction, is_capture, put_header, put_packet, read_capture};
+use rdm_capture::{
+    CaptureFault, Direction, Moment, Packet, capture_of, capture_of_packets, is_capture,
+    put_header, put_packet, read_capture, trace_of,
+};
+use rdm_frame::Wire;
+use rdm_trace::lines_of;
 use std::alloc::Global;
 use std::process::Abort;
 
@@ -99,4 +104,144 @@ fn written_packets(rt: HostRuntime) {
     let first = (Some(7), Direction::Inbound);
     let last = (Some(u64::MAX), Direction::Unknown);
     has(&rt, rt.alloc(), file.as_slice(), &[first, last], None);
+}
+
+/// A packet: when and which way it went, and its slots.
+type Row = (u64, Direction, &'static [u8]);
+
+/// Traces, with the packets of their captures.
+const CAPTURED: &[(&str, &[Row])] = &[
+    (
+        "send CC0102\nreply CC0304\n",
+        &[
+            (0, Direction::Outbound, b"\x01\x02"),
+            (0, Direction::Inbound, b"\x03\x04"),
+        ],
+    ),
+    // A lost request was sent, and a time counts up to the next.
+    (
+        "# 1.250 s\nsend CC01 lost-request\nreply none\nheard nothing\n# 2.000 s\nsend CC02\nreply CC03\n",
+        &[
+            (1_250_000_000, Direction::Outbound, b"\x01"),
+            (2_000_000_000, Direction::Outbound, b"\x02"),
+            (2_000_000_000, Direction::Inbound, b"\x03"),
+        ],
+    ),
+    // A lost reply wasn't heard, but the next one was.
+    (
+        "send CC01 lost-reply\nreply CC02\nsend CC03\nreply CC04\n",
+        &[
+            (0, Direction::Outbound, b"\x01"),
+            (0, Direction::Outbound, b"\x03"),
+            (0, Direction::Inbound, b"\x04"),
+        ],
+    ),
+    // What was heard was altered, what was sent wasn't.
+    (
+        "send CC01 bad-reply 1 255\nreply CC02\nsend CC05 bad-request 1 1\nreply none\n",
+        &[
+            (0, Direction::Outbound, b"\x01"),
+            (0, Direction::Inbound, b"\x01"),
+            (0, Direction::Outbound, b"\x05"),
+        ],
+    ),
+    // Without its START code no reply is a packet, unless it begins behind that.
+    (
+        "send CC01 bad-reply 0 1\nreply CC02\nsend CC\nreply FEFEAA\nsend 0107\n",
+        &[
+            (0, Direction::Outbound, b"\x01"),
+            (0, Direction::Outbound, b""),
+            (0, Direction::Outbound, b"\x01\x07"),
+        ],
+    ),
+    (
+        "found 7FF0:00000001\njob 0 1\narrive 0 1 done\npanel start 5\nmessage 21 0030 0000 -\nend\n",
+        &[],
+    ),
+];
+
+#[test]
+fn traces_as_captures(rt: HostRuntime) {
+    for (trace, rows) in CAPTURED {
+        let lines = lines_of(rt.alloc(), trace.as_bytes()).expect(&rt, "a trace");
+        let file = capture_of(rt.alloc(), lines.as_slice()).expect(&rt, "memory");
+        says(&rt, rt.alloc(), trace, file.as_slice(), rows);
+    }
+}
+
+/// The capture of a trace has exactly these packets.
+fn says(rt: &impl Abort, alloc: Global, trace: &str, file: &[u8], rows: &[Row]) {
+    let reading = read_capture(alloc, file).expect(rt, "memory");
+    assert!(rt;
+        reading.packets.len() == rows.len() && reading.fault.is_none(),
+        "{trace}"
+    );
+    for (packet, (time, direction, message)) in reading.packets.iter().zip(rows) {
+        assert!(rt; packet.time == Some(*time), "{trace}");
+        assert!(rt; packet.direction == *direction, "{trace}");
+        assert!(rt; packet.message == *message, "{trace}");
+    }
+}
+
+/// A message whose command class is that of a response, and no more.
+const RESPONSE: &[u8] = b"\0\0\0\0\0\0\0\0\0\0\0\0\0\0\0\0\0\0\0\x21";
+
+/// A packet without a time, two with one, and one that is before the first.
+const PACKETS: &[(Option<u64>, &[u8])] = &[
+    (None, b"\x01"),
+    (Some(7_000_001), b""),
+    (Some(9_000_000), RESPONSE),
+    (Some(5), b"\xFE"),
+];
+
+const TRACE: &str = "send CC01
+# 0.000 s
+send CC
+# 0.001 s
+reply CC0000000000000000000000000000000000000021
+# 0.000 s
+send CCFE
+";
+
+#[test]
+fn packets_as_a_trace(rt: HostRuntime) {
+    let mut packets = Vec::new(rt.alloc());
+    for (time, message) in PACKETS {
+        let packet = Packet {
+            time: *time,
+            direction: Direction::Unknown,
+            message,
+        };
+        packets.push(packet).expect(&rt, "memory");
+    }
+    let trace = trace_of(rt.alloc(), packets.as_slice()).expect(&rt, "memory");
+    assert!(rt; trace.as_slice() == TRACE.as_bytes());
+}
+
+#[test]
+fn packets_written_again(rt: HostRuntime) {
+    let parts = [SECTION, TAGS, MESSAGE, OUTBOUND, TAGS, MESSAGE, SIMPLE_END];
+    let file = joined(&rt, rt.alloc(), &parts);
+    let reading = read_capture(rt.alloc(), file.as_slice()).expect(&rt, "memory");
+    let again = capture_of_packets(rt.alloc(), reading.packets.as_slice()).expect(&rt, "memory");
+    let sent = (Some(5_000_000), Direction::Outbound);
+    let simple = (Some(0), Direction::Unknown);
+    has(&rt, rt.alloc(), again.as_slice(), &[sent, simple], None);
+}
+
+#[test]
+fn frames_of_nobody(rt: HostRuntime) {
+    let mut file = Vec::new(rt.alloc());
+    put_header(&mut file).expect(&rt, "memory");
+    let moment = Moment::first();
+    for message in [MESSAGE, RESPONSE] {
+        let slots = joined(&rt, rt.alloc(), &[b"\xCC", message]);
+        let bytes = Wire::from_slice(slots.as_slice()).expect(&rt, "a frame");
+        moment.put_bytes(&mut file, &bytes).expect(&rt, "memory");
+    }
+    let rows = [
+        (0, Direction::Outbound, MESSAGE),
+        (0, Direction::Inbound, RESPONSE),
+    ];
+    says(&rt, rt.alloc(), "frames", file.as_slice(), &rows);
 }

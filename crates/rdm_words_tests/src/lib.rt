@@ -1,4 +1,4 @@
-//! The tests of rdm_words, rdm_entry, rdm_capture and rdm_chart, in a crate of their own: a crate with tests is proved twice.
+//! The tests of rdm_words, rdm_entry, rdm_capture, rdm_chart and rdm_expect, in a crate of their own: a crate with tests is proved twice.
 #![tactic(auto)]
 
 #[cfg(test)]
@@ -9,5 +9,7 @@ mod chart;
 mod entry;
 #[cfg(test)]
 mod entry_words;
+#[cfg(test)]
+mod expect;
 #[cfg(test)]
 mod tests;

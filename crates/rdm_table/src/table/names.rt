@@ -1,114 +1,53 @@
-//! The names of the standards' parameters, whether or not the table has them (ANSI E1.20-2010, table A-3, and ANSI E1.37-1).
+//! The names of the standards' parameters, whether or not the table has them (ANSI E1.20-2010, table A-3, and ANSI E1.37-1). Those that a
+//! profile can add are called as the list of them says.
 
-ghost use Rattle.std.specs.Prelude.{◌≡◌, option_map};
+ghost use Rattle.std.specs.Prelude.{◌≡◌, ◌==◌, find, map, option_map};
 ghost use Rattle.std.specs.Option.{option_or};
+ghost use Rattle.std.specs.Str.{bytes_eq};
 ghost use Rattle.rdm_frame.specs.Names.{for_c, name_in};
-ghost use Rattle.rdm_table.specs.Table.Names.{named_in, dimmer_names, level_names, curve_names, lock_names, other_names, pid_named, parameter_name};
+ghost use Rattle.rdm_table.specs.Table.Names.{named_in, lent_names, other_names, pid_named, parameter_name};
 
 use crate::{Kind, kind_of};
 use rdm_frame::standard::{
-    CAPTURE_PRESET, COMMS_STATUS, DISC_MUTE, DISC_UN_MUTE, DISC_UNIQUE_BRANCH,
-    PARAMETER_DESCRIPTION, PRODUCT_DETAIL_ID_LIST, PROXIED_DEVICE_COUNT, PROXIED_DEVICES,
-    REAL_TIME_CLOCK, RESET_DEVICE,
+    DISC_MUTE, DISC_UN_MUTE, DISC_UNIQUE_BRANCH, PARAMETER_DESCRIPTION, PROXIED_DEVICE_COUNT,
+    PROXIED_DEVICES,
 };
+use rdm_profile_rules::standard_rows;
 
-/// The parameters of ANSI E1.20-2010 that aren't in the table, a row each: the PID and the name.
+/// The parameters of ANSI E1.20-2010 that neither the table nor the list of those that a profile can add has: the PID and the name.
 macro_rules! other_rows {
-    ($use:ident!($argument:ident)) => {
+    ($use:ident) => {
         $use! {
-            ($argument)
             (DISC_UNIQUE_BRANCH "DISC_UNIQUE_BRANCH")
             (DISC_MUTE "DISC_MUTE")
             (DISC_UN_MUTE "DISC_UN_MUTE")
             (PROXIED_DEVICES "PROXIED_DEVICES")
             (PROXIED_DEVICE_COUNT "PROXIED_DEVICE_COUNT")
-            (COMMS_STATUS "COMMS_STATUS")
             (PARAMETER_DESCRIPTION "PARAMETER_DESCRIPTION")
-            (PRODUCT_DETAIL_ID_LIST "PRODUCT_DETAIL_ID_LIST")
-            (REAL_TIME_CLOCK "REAL_TIME_CLOCK")
-            (RESET_DEVICE "RESET_DEVICE")
-            (CAPTURE_PRESET "CAPTURE_PRESET")
         }
     };
 }
 
-/// The parameters of ANSI E1.37-1, in the same way: those of DMX512 and levels.
-macro_rules! level_rows {
-    ($use:ident!($argument:ident)) => {
-        $use! {
-            ($argument)
-            (0x0140 "DMX_BLOCK_ADDRESS")
-            (0x0141 "DMX_FAIL_MODE")
-            (0x0142 "DMX_STARTUP_MODE")
-            (0x0340 "DIMMER_INFO")
-            (0x0341 "MINIMUM_LEVEL")
-            (0x0342 "MAXIMUM_LEVEL")
-        }
+macro_rules! names {
+    ($(($pid:tt $name:literal $($more:tt)*))*) => {
+        &[$(($pid, $name)),*]
     };
 }
 
-/// Those of curves and lamps.
-macro_rules! curve_rows {
-    ($use:ident!($argument:ident)) => {
-        $use! {
-            ($argument)
-            (0x0343 "CURVE")
-            (0x0344 "CURVE_DESCRIPTION")
-            (0x0345 "OUTPUT_RESPONSE_TIME")
-            (0x0346 "OUTPUT_RESPONSE_TIME_DESCRIPTION")
-            (0x0347 "MODULATION_FREQUENCY")
-            (0x0348 "MODULATION_FREQUENCY_DESCRIPTION")
-            (0x0440 "BURN_IN")
-        }
+/// The same with a NUL behind each, as C wants a text.
+macro_rules! names_for_c {
+    ($(($pid:tt $name:literal $($more:tt)*))*) => {
+        &[$(($pid, concat!($name, "\0"))),*]
     };
 }
 
-/// Those of locks and presets.
-macro_rules! lock_rows {
-    ($use:ident!($argument:ident)) => {
-        $use! {
-            ($argument)
-            (0x0640 "LOCK_PIN")
-            (0x0641 "LOCK_STATE")
-            (0x0642 "LOCK_STATE_DESCRIPTION")
-            (0x1040 "IDENTIFY_MODE")
-            (0x1041 "PRESET_INFO")
-            (0x1042 "PRESET_STATUS")
-            (0x1043 "PRESET_MERGEMODE")
-            (0x1044 "POWER_ON_SELF_TEST")
-        }
-    };
-}
+const OTHERS: &[(u16, &str)] = other_rows!(names);
 
-macro_rules! pid_of_name {
-    (($name:ident) $(($pid:tt $text:literal))*) => {
-        $(
-            if $name == $text.as_bytes() {
-                return Some($pid);
-            }
-        )*
-    };
-}
+const LENT: &[(u16, &str)] = standard_rows!(names);
 
-macro_rules! name_of_pid {
-    (($pid:ident) $(($number:tt $text:literal))*) => {
-        $(
-            if $pid == $number {
-                return Some($text);
-            }
-        )*
-    };
-}
+const OTHERS_FOR_C: &[(u16, &str)] = other_rows!(names_for_c);
 
-macro_rules! name_for_c_of_pid {
-    (($pid:ident) $(($number:tt $text:literal))*) => {
-        $(
-            if $pid == $number {
-                return Some(concat!($text, "\0").as_bytes());
-            }
-        )*
-    };
-}
+const LENT_FOR_C: &[(u16, &str)] = standard_rows!(names_for_c);
 
 /// The PID of the parameter with this name in the standard, such as `DMX_START_ADDRESS` or `DISC_MUTE`, or `None` if the
 /// standard has none: the text is compared byte for byte.
@@ -124,93 +63,73 @@ pub fn pid_named(name: &[u8]) -> Option<u16>
 
 /// The PID of a parameter that isn't in the table.
 fn other_named(name: &[u8]) -> Option<u16>
-    ensures { result ≡ option_or (named_in other_names name.now) (named_in dimmer_names name.now) }
+    ensures { result ≡ option_or (named_in other_names name.now) (named_in lent_names name.now) }
 {
     match first_named(name) {
         Some(pid) => Some(pid),
-        None => dimmer_named(name),
+        None => lent_named(name),
     }
 }
 
-/// The PID of a parameter of E1.20 that isn't in the table.
+/// The PID of a parameter that neither the table nor the list of those that a profile can add has.
 fn first_named(name: &[u8]) -> Option<u16>
     ensures { result ≡ named_in other_names name.now }
 {
-    other_rows!(pid_of_name!(name));
-    None
+    named_in(OTHERS, name)
 }
 
-/// The PID of a parameter of E1.37-1.
-#[tactic(auto, using(crate::proofs::DimmerNames::named_apart))]
-fn dimmer_named(name: &[u8]) -> Option<u16>
-    ensures { result ≡ named_in dimmer_names name.now }
+/// The PID of a parameter that a profile can add.
+fn lent_named(name: &[u8]) -> Option<u16>
+    ensures { result ≡ named_in lent_names name.now }
 {
-    named_by_part(name)
+    named_in(LENT, name)
 }
 
-/// The same, part by part: all names in one function would take longer to prove than three functions do.
-fn named_by_part(name: &[u8]) -> Option<u16>
-    ensures { result ≡ option_or (named_in level_names name.now) (option_or (named_in curve_names name.now) (named_in lock_names name.now)) }
+/// The PID that stands beside a name in these rows.
+fn named_in(rows: &'static [(u16, &'static str)], name: &[u8]) -> Option<u16>
+    ensures { result ≡ named_in (map (λ row. (row.0, row.1.now)) rows.now) name.now }
 {
-    match level_named(name) {
-        Some(pid) => Some(pid),
-        None => match curve_named(name) {
-            Some(pid) => Some(pid),
-            None => lock_named(name),
-        },
+    match row_named(rows, name) {
+        Some(row) => Some(row.0),
+        None => None,
     }
 }
 
-/// The PID of a parameter of DMX512 and levels.
-fn level_named(name: &[u8]) -> Option<u16>
-    ensures { result ≡ named_in level_names name.now }
+/// The first row with this name.
+fn row_named(
+    rows: &'static [(u16, &'static str)],
+    name: &[u8],
+) -> Option<&'static (u16, &'static str)>
+    ensures { option_map (λ row. row.now) result ≡ find (λ row. bytes_eq name.now row.1.now) rows.now }
 {
-    level_rows!(pid_of_name!(name));
-    None
-}
-
-/// The PID of a parameter of curves and lamps.
-fn curve_named(name: &[u8]) -> Option<u16>
-    ensures { result ≡ named_in curve_names name.now }
-{
-    curve_rows!(pid_of_name!(name));
-    None
-}
-
-/// The PID of a parameter of locks and presets.
-fn lock_named(name: &[u8]) -> Option<u16>
-    ensures { result ≡ named_in lock_names name.now }
-{
-    lock_rows!(pid_of_name!(name));
-    None
+    rows.iter().find(|row| name == row.1.as_bytes())
 }
 
 /// The name of a parameter that isn't in the table, or `None` if it is another one: `Kind::name` has those of the table.
 pub fn other_name(pid: u16) -> Option<&'static str>
-    ensures { option_map (λ text. text.now) result ≡ option_or (name_in other_names pid) (name_in dimmer_names pid) }
+    ensures { option_map (λ text. text.now) result ≡ option_or (name_in other_names pid) (name_in lent_names pid) }
 {
-    match first_name(pid) {
+    match name_in(OTHERS, pid) {
         Some(name) => Some(name),
-        None => dimmer_name(pid),
+        None => name_in(LENT, pid),
     }
 }
 
-/// The name of a parameter of E1.20 that isn't in the table.
-fn first_name(pid: u16) -> Option<&'static str>
-    ensures { option_map (λ text. text.now) result ≡ name_in other_names pid }
+/// The name that stands beside a PID in these rows.
+fn name_in(rows: &'static [(u16, &'static str)], pid: u16) -> Option<&'static str>
+    ensures { option_map (λ text. text.now) result ≡ name_in (map (λ row. (row.0, row.1.now)) rows.now) pid }
 {
-    other_rows!(name_of_pid!(pid));
-    None
+    match row_with(rows, pid) {
+        Some(row) => Some(row.1),
+        None => None,
+    }
 }
 
-/// The name of a parameter of E1.37-1.
-fn dimmer_name(pid: u16) -> Option<&'static str>
-    ensures { option_map (λ text. text.now) result ≡ name_in dimmer_names pid }
+/// The first row with this PID.
+fn row_with(rows: &'static [(u16, &'static str)], pid: u16) -> Option<&'static (u16, &'static str)>
+    ensures { option_map (λ row. row.now) result ≡ find (λ row. pid == row.0) rows.now }
 {
-    level_rows!(name_of_pid!(pid));
-    curve_rows!(name_of_pid!(pid));
-    lock_rows!(name_of_pid!(pid));
-    None
+    rows.iter().find(|row| pid == row.0)
 }
 
 /// The name of a parameter in the standard, or `None` if the standard has none for its PID.
@@ -235,28 +154,20 @@ pub fn parameter_name_for_c(pid: u16) -> Option<&'static [u8]>
 
 /// The name of a parameter that isn't in the table, with a NUL behind it.
 fn other_name_for_c(pid: u16) -> Option<&'static [u8]>
-    ensures { option_map (λ text. text.now) result ≡ option_map for_c (option_or (name_in other_names pid) (name_in dimmer_names pid)) }
+    ensures { option_map (λ text. text.now) result ≡ option_map for_c (option_or (name_in other_names pid) (name_in lent_names pid)) }
 {
-    match first_name_for_c(pid) {
-        Some(name) => Some(name),
-        None => dimmer_name_for_c(pid),
+    match other_text_for_c(pid) {
+        Some(text) => Some(text.as_bytes()),
+        None => None,
     }
 }
 
-/// The name of a parameter of E1.20 that isn't in the table, with a NUL behind it.
-fn first_name_for_c(pid: u16) -> Option<&'static [u8]>
-    ensures { option_map (λ text. text.now) result ≡ option_map for_c (name_in other_names pid) }
+/// The same as a text.
+fn other_text_for_c(pid: u16) -> Option<&'static str>
+    ensures { option_map (λ text. text.now) result ≡ option_map for_c (option_or (name_in other_names pid) (name_in lent_names pid)) }
 {
-    other_rows!(name_for_c_of_pid!(pid));
-    None
-}
-
-/// The name of a parameter of E1.37-1, with a NUL behind it.
-fn dimmer_name_for_c(pid: u16) -> Option<&'static [u8]>
-    ensures { option_map (λ text. text.now) result ≡ option_map for_c (name_in dimmer_names pid) }
-{
-    level_rows!(name_for_c_of_pid!(pid));
-    curve_rows!(name_for_c_of_pid!(pid));
-    lock_rows!(name_for_c_of_pid!(pid));
-    None
+    match name_in(OTHERS_FOR_C, pid) {
+        Some(text) => Some(text),
+        None => name_in(LENT_FOR_C, pid),
+    }
 }

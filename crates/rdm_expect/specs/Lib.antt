@@ -1,0 +1,6 @@
+pub mod Lines
+pub mod Markup
+pub mod Reasons
+pub mod Sheets
+pub mod Verdicts
+pub mod Wishes

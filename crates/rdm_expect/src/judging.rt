@@ -1,0 +1,281 @@
+//! Expectations are judged by the lines of a trace.
+
+ghost use Rattle.std.specs.Prelude.{◌≡◌, ◌≤◌, ◌++◌, [], ◌∷◌, map, find, slice_get, length, IfOk, OnOk, option_map};
+ghost use Rattle.rdm_expect.specs.Verdicts.{is_send, is_reply, is_heard, parts_of, bytes_told, heard_told, answered_in, heard_in, answer_in, came_of, came_in, time_told, sent_at, heard_at, passed_in, is_ack, is_timer, is_overflow, is_nack, is_met, holds, verdict_if, in_time, judged, judged_at, verdict_of};
+
+use crate::sheet::Expectation;
+use crate::wish::Wish;
+use rdm_collector::{Body, Heard, Response, read_reply};
+use rdm_trace::Line;
+use std::alloc::{AllocError, Global};
+
+/// What came to a request.
+#[derive(Drop)]
+pub enum Came {
+    /// There was no such request: the run stopped before it.
+    NoRequest,
+    /// The controller heard nothing.
+    Nothing,
+    /// It heard something that isn't a reply to the request.
+    Other,
+    /// A reply with these data.
+    Response(Response, Body),
+    /// A reply that took this many milliseconds.
+    After(u64),
+}
+
+/// What comes of an expectation.
+#[derive(Drop)]
+pub enum Verdict {
+    /// It holds.
+    Passed,
+    /// It doesn't, by what came.
+    Failed(Came),
+    /// It can't be judged, since the trace has no times.
+    Skipped,
+}
+
+/// What comes of each expectation by the lines of the trace of its script.
+pub fn judge(
+    alloc: Global,
+    expectations: &[Expectation],
+    lines: &[Line],
+) -> Result<Vec<Verdict>, AllocError>
+    ensures { IfOk result (λ verdicts. verdicts.items ≡ map (verdict_of (parts_of lines.now)) expectations.now) }
+{
+    let parts = parts_of(alloc, lines)?;
+    let mut verdicts = Vec::new(alloc);
+    for expectation in expectations {
+        put(&mut verdicts, verdict_of(&parts, expectation))?;
+    }
+    Ok(verdicts)
+}
+
+/// Puts a verdict behind others.
+fn put(verdicts: &mut Vec<Verdict>, verdict: Verdict) -> Result<(), AllocError>
+    ensures { OnOk result (verdicts.new.items ≡ verdicts.old.items ++ verdict ∷ []) }
+{
+    match verdicts.push(verdict) {
+        Ok(()) => Ok(()),
+        Err(_) => Err(AllocError),
+    }
+}
+
+/// What stands before the first request, and behind each up to the next.
+fn parts_of(alloc: Global, lines: &[Line]) -> Result<Vec<&[Line]>, AllocError>
+    ensures { IfOk result (λ parts. map (λ part. part.now) parts.items ≡ parts_of lines.now) }
+{
+    lines.split(|line| is_send(line)).collect(alloc)
+}
+
+/// Whether a line tells of a request.
+fn is_send(line: &Line) -> bool
+    ensures { result ≡ is_send line.now }
+{
+    matches!(line, Line::Send { .. })
+}
+
+/// Whether a line tells what the device answers.
+fn is_reply(line: &Line) -> bool
+    ensures { result ≡ is_reply line.now }
+{
+    matches!(line, Line::Reply(_))
+}
+
+/// Whether a line tells what an answer is taken for.
+fn is_heard(line: &Line) -> bool
+    ensures { result ≡ is_heard line.now }
+{
+    matches!(line, Line::Heard(_))
+}
+
+/// What comes of an expectation.
+fn verdict_of(parts: &[&[Line]], expectation: &Expectation) -> Verdict
+    ensures { result ≡ verdict_of (map (λ part. part.now) parts.now) expectation.now }
+{
+    let before = part_at(parts, expectation.request);
+    let part = part_at(parts, expectation.request.saturating_add(1));
+    match (before, part) {
+        (Some(before), Some(part)) => judged(&expectation.wish, before, part),
+        _ => Verdict::Failed(Came::NoRequest),
+    }
+}
+
+/// The part at this index.
+fn part_at<'a>(parts: &[&'a [Line]], index: usize) -> Option<&'a [Line]>
+    ensures { option_map (λ part. part.now) result ≡ slice_get (map (λ part. part.now) parts.now) index }
+{
+    match parts.get(index) {
+        Some(part) => Some(*part),
+        None => None,
+    }
+}
+
+/// Whether a wish is met by what stands before a request and behind it.
+fn judged(wish: &Wish, before: &[Line], part: &[Line]) -> Verdict
+    ensures { result ≡ judged wish.now before.now part.now }
+{
+    let came = came_in(part);
+    match wish {
+        Wish::Within(most) => in_time(*most, passed_in(before, part), came),
+        _ => {
+            if holds(wish, &came) {
+                Verdict::Passed
+            } else {
+                Verdict::Failed(came)
+            }
+        }
+    }
+}
+
+/// What came to a request, by the lines behind it.
+#[tactic(auto, unfolding(crate::specs::Verdicts::came_in))]
+fn came_in(part: &[Line]) -> Came
+    ensures { result ≡ came_in part.now }
+{
+    match heard_in(part) {
+        None => Came::Nothing,
+        Some(Heard::Ignored) => Came::Other,
+        Some(Heard::Message | Heard::Reply) => answer_in(answered_in(part)),
+    }
+}
+
+/// What the controller takes the answer for.
+fn heard_in(part: &[Line]) -> Option<Heard>
+    ensures { result ≡ heard_in part.now }
+{
+    heard_told(first_heard(part))
+}
+
+/// The first line that tells what an answer is taken for.
+fn first_heard(part: &[Line]) -> Option<&Line>
+    ensures { option_map (λ line. line.now) result ≡ find is_heard part.now }
+{
+    part.iter().find(|line| is_heard(line))
+}
+
+/// What a line tells that an answer is taken for.
+fn heard_told(line: Option<&Line>) -> Option<Heard>
+    ensures { result ≡ heard_told (option_map (λ line. line.now) line.entry) }
+{
+    match line {
+        Some(Line::Heard(heard)) => *heard,
+        _ => None,
+    }
+}
+
+/// The bytes that the device answers.
+fn answered_in(part: &[Line]) -> Option<&[u8]>
+    ensures { option_map (λ bytes. bytes.now) result ≡ answered_in part.now }
+{
+    bytes_told(first_reply(part))
+}
+
+/// The first line that tells what the device answers.
+fn first_reply(part: &[Line]) -> Option<&Line>
+    ensures { option_map (λ line. line.now) result ≡ find is_reply part.now }
+{
+    part.iter().find(|line| is_reply(line))
+}
+
+/// The bytes that a line tells that the device answers.
+fn bytes_told(line: Option<&Line>) -> Option<&[u8]>
+    ensures { option_map (λ bytes. bytes.now) result ≡ bytes_told (option_map (λ line. line.now) line.entry) }
+{
+    match line {
+        Some(Line::Reply(Some(bytes))) => Some(bytes.as_slice()),
+        _ => None,
+    }
+}
+
+/// What bytes say that are taken for an answer.
+fn answer_in(bytes: Option<&[u8]>) -> Came
+    ensures { result ≡ answer_in (option_map (λ bytes. bytes.now) bytes.entry) }
+{
+    let Some(bytes) = bytes else {
+        return Came::Other;
+    };
+    match read_reply(bytes) {
+        Some(reply) => Came::Response(reply.response, copied(reply.body)),
+        None => Came::Other,
+    }
+}
+
+/// The same data again.
+fn copied(data: &[u8]) -> Body
+    requires { length data.now ≤ 231 }
+    ensures { result ≡ data.now }
+{
+    let mut body = Body::new();
+    body.append(data);
+    body
+}
+
+/// How many milliseconds pass from a request to its reply.
+#[tactic(auto, unfolding(crate::specs::Verdicts::passed_in))]
+fn passed_in(before: &[Line], part: &[Line]) -> Option<u64>
+    ensures { result ≡ passed_in before.now part.now }
+{
+    let sent = time_told(before.last())?;
+    let heard = time_told(part.first())?;
+    Some(heard.saturating_sub(sent))
+}
+
+/// The time that a line tells, if it does.
+fn time_told(line: Option<&Line>) -> Option<u64>
+    ensures { result ≡ time_told (option_map (λ line. line.now) line.entry) }
+{
+    match line {
+        Some(Line::Time { millis }) => Some(*millis),
+        _ => None,
+    }
+}
+
+/// Whether a reply comes in time.
+fn in_time(most: u64, passed: Option<u64>, came: Came) -> Verdict
+    ensures { result ≡ in_time most passed came }
+{
+    match (passed, came) {
+        (None, _) => Verdict::Skipped,
+        (Some(millis), Came::Response(_, _)) if millis <= most => Verdict::Passed,
+        (Some(millis), Came::Response(_, _)) => Verdict::Failed(Came::After(millis)),
+        (Some(_), came) => Verdict::Failed(came),
+    }
+}
+
+/// Whether a wish holds of what came.
+fn holds(wish: &Wish, came: &Came) -> bool
+    ensures { result ≡ holds wish.now came.now }
+{
+    match came {
+        Came::Nothing => matches!(wish, Wish::Nothing),
+        Came::Response(response, data) => is_met(wish, *response, data.as_slice()),
+        Came::NoRequest | Came::Other | Came::After(_) => false,
+    }
+}
+
+/// Whether a response with these data meets a wish.
+fn is_met(wish: &Wish, response: Response, data: &[u8]) -> bool
+    ensures { result ≡ is_met wish.now response data.now }
+{
+    match wish {
+        Wish::Ack => matches!(response, Response::Ack),
+        Wish::AckTimer => matches!(response, Response::AckTimer { .. }),
+        Wish::AckOverflow => matches!(response, Response::AckOverflow),
+        Wish::Nack(reason) => is_nack(*reason, response),
+        Wish::Data(wanted) => data == wanted.as_slice(),
+        Wish::Reply => true,
+        Wish::Nothing | Wish::Within(_) => false,
+    }
+}
+
+/// Whether a response is a NACK, and for this reason if one is named.
+fn is_nack(wanted: Option<u16>, response: Response) -> bool
+    ensures { result ≡ is_nack wanted response }
+{
+    match (wanted, response) {
+        (None, Response::Nack { .. }) => true,
+        (Some(code), Response::Nack { reason }) => code == reason,
+        _ => false,
+    }
+}

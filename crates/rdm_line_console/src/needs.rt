@@ -1,0 +1,185 @@
+//! What a script needs of the device that it tests.
+
+use super::entry::FIRST_OF_MAKERS;
+use rdm_collector::{Action, Command, Load, Port};
+use rdm_console::Mailbox;
+use rdm_entry::parameter_named;
+use rdm_frame::digits::word_in;
+use rdm_frame::standard::PARAMETER_DESCRIPTION;
+use rdm_host::fault::Fault;
+use rdm_host::host::Host;
+use rdm_line_talk::{Console, Outcome};
+use rdm_params::{Kind, parameter_name};
+use rdm_survey::DeviceInfo;
+use std::alloc::{AllocError, Global};
+use std::io::Write;
+use std::str;
+
+/// What a line that says a need begins with.
+const NEEDS: &str = "# needs ";
+
+/// Why a line isn't one.
+const FLAW: &str = "this isn't a valid need: expected a parameter, sub-devices or no sub-devices";
+
+/// Something that a script needs.
+#[derive(Clone, Copy, PartialEq, Eq)]
+pub(crate) enum Need {
+    /// The parameter with this PID.
+    Parameter(u16),
+    /// At least one sub-device.
+    SubDevices,
+    /// No sub-devices.
+    NoSubDevices,
+}
+
+impl Need {
+    /// The need that these words say.
+    fn of(words: &str) -> Option<Need> {
+        match words {
+            "sub-devices" => Some(Need::SubDevices),
+            "no sub-devices" => Some(Need::NoSubDevices),
+            word => match word_in(word.as_bytes()) {
+                Some(pid) => Some(Need::Parameter(pid)),
+                None => Some(Need::Parameter(parameter_named(word)?)),
+            },
+        }
+    }
+
+    /// What a device has that lacks it.
+    pub(crate) fn lack(self, alloc: Global) -> Result<String, AllocError> {
+        match self {
+            Need::SubDevices => String::from_str(alloc, "no sub-devices"),
+            Need::NoSubDevices => String::from_str(alloc, "sub-devices"),
+            Need::Parameter(pid) => match parameter_name(pid) {
+                Some(name) => format!(in alloc; "no {name}"),
+                None => format!(in alloc; "no parameter {pid:04X}"),
+            },
+        }
+    }
+}
+
+/// The needs of the script of this name: those that the comments say with which it begins.
+pub(crate) fn needs_in<'a>(
+    alloc: Global,
+    name: &'a str,
+    script: &[u8],
+) -> Result<Vec<Need>, Fault<'a>> {
+    let mut needs = Vec::new(alloc);
+    for (index, line) in script.split(|byte| *byte == b'\n').enumerate() {
+        if !line.starts_with(b"#") {
+            return Ok(needs);
+        }
+        if let Some(words) = words_of(line) {
+            match Need::of(words) {
+                Some(need) => needs.push(need)?,
+                None => return Err(Fault::Expectation(name, index.saturating_add(1), FLAW)),
+            }
+        }
+    }
+    Ok(needs)
+}
+
+/// The words of a need, if a line says one.
+fn words_of(line: &[u8]) -> Option<&str> {
+    match str::from_utf8(line) {
+        Ok(text) => Some(text.strip_prefix(NEEDS)?.trim()),
+        Err(_) => None,
+    }
+}
+
+/// What a device has of that which a script may need.
+#[derive(Drop)]
+pub(crate) struct Equipment {
+    /// The data of its SUPPORTED_PARAMETERS (E1.20 section 10.4.1).
+    listed: Vec<u8>,
+    /// What its DEVICE_INFO says.
+    info: Option<DeviceInfo>,
+}
+
+impl Equipment {
+    /// Asks a device for it.
+    pub(crate) fn asked<'a, H: Host, P: Port, F: Write>(
+        console: &mut Console<'a, H, P, F>,
+        mailbox: &mut Mailbox,
+    ) -> Result<Equipment, Fault<'a>> {
+        let info = read(console, mailbox, Kind::DeviceInfo)?;
+        Ok(Equipment {
+            listed: read(console, mailbox, Kind::SupportedParameters)?,
+            info: DeviceInfo::of(info.as_slice()),
+        })
+    }
+
+    /// The first of these needs that it doesn't meet.
+    pub(crate) fn unmet(&self, needs: &[Need]) -> Option<Need> {
+        needs.iter().copied().find(|need| !self.meets(*need))
+    }
+
+    /// Whether it meets a need.
+    fn meets(&self, need: Need) -> bool {
+        match need {
+            Need::Parameter(pid) => self.has(pid),
+            Need::SubDevices => self.subs() > 0,
+            Need::NoSubDevices => self.subs() == 0,
+        }
+    }
+
+    /// Whether it has a parameter. Those that every device has aren't listed, nor is DMX_START_ADDRESS, which a device has that has a start
+    /// address, nor PARAMETER_DESCRIPTION, which describes parameters of the maker's own (E1.20 section 10.4.1).
+    fn has(&self, pid: u16) -> bool {
+        let is_everywhere = pid == Kind::SupportedParameters.pid()
+            || pid == Kind::DeviceInfo.pid()
+            || pid == Kind::SoftwareVersionLabel.pid()
+            || pid == Kind::IdentifyDevice.pid();
+        is_everywhere
+            || (pid == Kind::DmxStartAddress.pid() && self.has_address())
+            || self.lists(|listed| listed == pid)
+            || (pid == PARAMETER_DESCRIPTION && self.lists(|listed| listed >= FIRST_OF_MAKERS))
+    }
+
+    /// Whether one of the PIDs that it lists is of this sort.
+    fn lists<T: Fn(u16) -> bool>(&self, is_one: T) -> bool {
+        self.listed
+            .as_slice()
+            .chunks_exact(2)
+            .any(|word| match word {
+                [high, low] => is_one(u16::from_be_bytes([*high, *low])),
+                _ => false,
+            })
+    }
+
+    fn has_address(&self) -> bool {
+        match &self.info {
+            Some(info) => info.address.is_some(),
+            None => false,
+        }
+    }
+
+    /// How many sub-devices it has.
+    fn subs(&self) -> u16 {
+        match &self.info {
+            Some(info) => info.sub_devices,
+            None => 0,
+        }
+    }
+}
+
+/// The data of a parameter of the root, or none if the device of a mailbox doesn't give it.
+fn read<'a, H: Host, P: Port, F: Write>(
+    console: &mut Console<'a, H, P, F>,
+    mailbox: &mut Mailbox,
+    kind: Kind,
+) -> Result<Vec<u8>, Fault<'a>> {
+    let command = Command {
+        dst: mailbox.uid(),
+        action: Action::Get,
+        sub: 0,
+        pid: kind.pid(),
+        load: Load::new(),
+    };
+    match console.outcome(mailbox, &command)? {
+        Outcome::Done(data) => Ok(data),
+        Outcome::Rejected(_) | Outcome::Failed(_) | Outcome::Lacks(_) => {
+            Ok(Vec::new(console.teller.rt().alloc()))
+        }
+    }
+}
