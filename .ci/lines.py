@@ -2,12 +2,16 @@
 import os
 import pty
 import re
+import select
 import subprocess
 import termios
+import time
 import tty
 
 SUM = re.compile(r"scripts: (\d+) played, (\d+) left out; expectations: (\d+) passed, (\d+) failed")
 LEFT_OUT = re.compile(r"(\S+): left out: ")
+# The message that asks an interface for its serial number, the length of the answer, and how long it may take at first, in seconds.
+SERIAL, ANSWER, START = b"\x7E\x0A\0\0\xE7", 9, 20
 
 
 class Line:
@@ -22,6 +26,15 @@ class Line:
         self.port = os.ttyname(self.slave)
         self.fixture = subprocess.Popen(command, stdin=master, stdout=master, stderr=subprocess.DEVNULL)
         os.close(master)
+        self.await_start()
+
+    def await_start(self):
+        """Waits until the interface answers."""
+        os.write(self.slave, SERIAL)
+        heard, end = b"", time.monotonic() + START
+        while len(heard) < ANSWER and time.monotonic() < end and self.fixture.poll() is None:
+            if select.select([self.slave], [], [], 0.1)[0]:
+                heard += os.read(self.slave, ANSWER)
 
     def __enter__(self):
         return self
