@@ -2,13 +2,13 @@
 
 use super::entry::FIRST_OF_MAKERS;
 use rdm_collector::{Action, Command, Load, Port};
-use rdm_console::Mailbox;
+use rdm_console::{Lack, Mailbox};
 use rdm_entry::parameter_named;
 use rdm_frame::digits::word_in;
 use rdm_frame::standard::PARAMETER_DESCRIPTION;
 use rdm_host::fault::Fault;
 use rdm_host::host::Host;
-use rdm_line_talk::{Console, Outcome};
+use rdm_line_talk::{Console, Outcome, fault_of};
 use rdm_params::{Kind, parameter_name};
 use rdm_survey::DeviceInfo;
 use std::alloc::{AllocError, Global};
@@ -97,14 +97,20 @@ pub(crate) struct Equipment {
 }
 
 impl Equipment {
-    /// Asks a device for it.
+    /// Asks a device for it. One that answers nothing can't be tested.
     pub(crate) fn asked<'a, H: Host, P: Port, F: Write>(
         console: &mut Console<'a, H, P, F>,
         mailbox: &mut Mailbox,
     ) -> Result<Equipment, Fault<'a>> {
-        let info = read(console, mailbox, Kind::DeviceInfo)?;
+        let alloc = console.teller.rt().alloc();
+        let outcome = read(console, mailbox, Kind::DeviceInfo)?;
+        if let Outcome::Lacks(Lack::Silent) = &outcome {
+            return Err(Fault::Line(fault_of(mailbox.uid(), outcome)));
+        }
+        let info = data_of(alloc, outcome);
+        let listed = read(console, mailbox, Kind::SupportedParameters)?;
         Ok(Equipment {
-            listed: read(console, mailbox, Kind::SupportedParameters)?,
+            listed: data_of(alloc, listed),
             info: DeviceInfo::of(info.as_slice()),
         })
     }
@@ -163,12 +169,12 @@ impl Equipment {
     }
 }
 
-/// The data of a parameter of the root, or none if the device of a mailbox doesn't give it.
+/// Asks the device of a mailbox for a parameter of the root.
 fn read<'a, H: Host, P: Port, F: Write>(
     console: &mut Console<'a, H, P, F>,
     mailbox: &mut Mailbox,
     kind: Kind,
-) -> Result<Vec<u8>, Fault<'a>> {
+) -> Result<Outcome, Fault<'a>> {
     let command = Command {
         dst: mailbox.uid(),
         action: Action::Get,
@@ -176,10 +182,13 @@ fn read<'a, H: Host, P: Port, F: Write>(
         pid: kind.pid(),
         load: Load::new(),
     };
-    match console.outcome(mailbox, &command)? {
-        Outcome::Done(data) => Ok(data),
-        Outcome::Rejected(_) | Outcome::Failed(_) | Outcome::Lacks(_) => {
-            Ok(Vec::new(console.teller.rt().alloc()))
-        }
+    console.outcome(mailbox, &command)
+}
+
+/// The data that a device gives, or none if it doesn't give any.
+fn data_of(alloc: Global, outcome: Outcome) -> Vec<u8> {
+    match outcome {
+        Outcome::Done(data) => data,
+        Outcome::Rejected(_) | Outcome::Failed(_) | Outcome::Lacks(_) => Vec::new(alloc),
     }
 }
