@@ -80,7 +80,8 @@ class BroadcastAnswered(Fixture):
     """A broadcast isn't answered (E1.20 section 6.2.4). Here it is."""
 
     def hear(self, request):
-        return self.ask(request.but(dst=self.uid) if request.is_broadcast and request.kind != DISCOVERY else request)
+        is_meant = request.is_broadcast and request.kind != DISCOVERY and (request.dst == ALL or request.dst[:2] == self.uid[:2])
+        return self.ask(request.but(dst=self.uid) if is_meant else request)
 
 
 class BroadcastIgnored(Fixture):
@@ -167,3 +168,20 @@ class UniqueBranchRefused(Fixture):
         answer = self.ask(request)
         is_wrong = request.kind == DISCOVERY and request.pid == DISC_UNIQUE_BRANCH and len(request.data) != 12
         return refusal(request, FORMAT_ERROR).but(src=self.uid, kind=DISCOVERY_RESPONSE) if is_wrong else answer
+
+
+class NeverFound(Fixture):
+    """An un-muted device answers DISC_UNIQUE_BRANCH (E1.20 section 7.5). Here it never does."""
+
+    def hear(self, request):
+        return b"" if request.kind == DISCOVERY and request.pid == DISC_UNIQUE_BRANCH else self.ask(request)
+
+
+class UnMuteIgnored(Fixture):
+    """DISC_UN_MUTE un-mutes (E1.20 section 7.6). Here a device that was muted stays so."""
+
+    def hear(self, request):
+        answer = self.ask(request)
+        if request.kind == DISCOVERY and request.pid == DISC_UN_MUTE:
+            self.ask(request.but(dst=ALL, pid=DISC_MUTE, data=b""))
+        return answer

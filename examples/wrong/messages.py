@@ -140,6 +140,22 @@ class ResultsOutOfOrder(Fixture):
         return answer
 
 
+class CountBeforeDispense(Fixture):
+    """The message count is that of the messages that still wait (E1.20 section 6.2.8). Here the one that is sent is counted, too."""
+
+    def hear(self, request):
+        answer = self.ask(request)
+        return answer.but(count=min(answer.count + 1, 255)) if is_poll(request) and is_message(answer) else answer
+
+
+class MessageUnnamed(Fixture):
+    """A message has the parameter that it reports (E1.20 section 10.3.1). Here it is a response to QUEUED_MESSAGE."""
+
+    def hear(self, request):
+        answer = self.ask(request)
+        return answer.but(kind=GET_RESPONSE, pid=QUEUED_MESSAGE) if is_poll(request) and is_message(answer) else answer
+
+
 class FullAccepted(Fixture):
     """A command whose result has no room gets a NACK for BUFFER_FULL (E1.20 table A-17). Here it is accepted, and no result comes."""
 
