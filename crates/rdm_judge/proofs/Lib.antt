@@ -3,4 +3,9 @@ pub mod Fixtures
 pub mod Pairs
 pub mod Answers
 pub mod Responses
+pub mod RequestFacts
 pub mod NeverWrong
+pub mod Messages
+pub mod Polls
+pub mod Known
+pub mod Captures

@@ -1,14 +1,14 @@
 -- What a fixture replies is never judged wrong.
-use Rattle.std.proofs.Common.{◌≡◌, ℕ, Bool, true, false, not, cond, ◌==◌, ◌&&◌, ◌||◌, ◌+◌, List, length, Option, Some, None, inl, inr, refl, sym, ap, subst, ◌∙◌}
+use Rattle.std.proofs.Common.{◌≡◌, ℕ, Bool, true, false, not, cond, ◌==◌, ◌&&◌, ◌||◌, ◌+◌, List, Option, Some, None, inl, inr, refl, sym, ap, subst, ◌∙◌}
 use Rattle.std.proofs.lemmas.Slice.Eq.{bytes_eq-Decides}
 use Rattle.std.specs.Int.{w16, to_be_bytes}
 use Rattle.std.specs.Str.{bytes_eq}
 use Rattle.rdm_frame.specs.declared.uid.Uid.{Uid}
 use Rattle.rdm_frame.specs.declared.frame.Frame.{Frame}
-use Rattle.rdm_frame.specs.Addressing.{is_addressed, is_broadcast}
+use Rattle.rdm_frame.specs.Addressing.{is_broadcast}
 use Rattle.rdm_frame.specs.Discovery.{branch_reply}
 use Rattle.rdm_frame.specs.FrameText.{frame_text}
-use Rattle.rdm_frame.specs.Reading.{frame_in, frame_of, uid_at}
+use Rattle.rdm_frame.specs.Reading.{frame_in, frame_of}
 use Rattle.rdm_profile.specs.declared.profile.Profile.{Profile}
 use Rattle.rdm_commands.specs.declared.verdict.Verdict.{Verdict as Answer}
 use Rattle.rdm_commands.specs.declared.verdict.Verdict.TheVariants.{Reply, Start, Queue, Status, Clear, Refuse}
@@ -19,12 +19,13 @@ use Rattle.rdm_params.specs.Commands.Commands.{answer_to_set, got}
 use Rattle.rdm_params.specs.Device.Parameters.{Parameters}
 use Rattle.rdm_params.specs.Jobs.Laws.{SameDevices}
 use Rattle.rdm_params.proofs.Fetches.{get_queues, get_statuses, set_fetches_nothing}
-use Rattle.rdm_responder.specs.Requests.{Request, Ignored, Branch, Muting, Get, Set, discovery_of, get_of, request_in, request_of}
+use Rattle.rdm_responder.specs.Requests.{Request, Ignored, Branch, Muting, Get, Set, request_in, request_of}
 use Rattle.rdm_responder.specs.Rules.{Account, Response, account_of, ack, answer_to, answer_with, control_field, is_between, is_muted, message_count, outbox_after, reply_with, response_of}
 use Rattle.rdm_judge.specs.declared.asked.Asked.TheVariants as asking
 use Rattle.rdm_judge.specs.declared.verdict.Verdict.{Verdict}
 use Rattle.rdm_judge.specs.declared.verdict.Verdict.TheVariants.{Right}
 use Rattle.rdm_judge.specs.Judging.{NeverWrong, asked_with, broken, fetches, is_wrong, judged, on_frames, on_other, verdict_beside}
+use Rattle.rdm_judge.proofs.RequestFacts.{Facts, request_is}
 use Rattle.rdm_judge.proofs.Fixtures.{same_devices, setup_stays}
 use Rattle.rdm_judge.proofs.Answers.{Alike, get_alike, kind_of, set_alike}
 use Rattle.rdm_judge.proofs.Responses.{Heads, frame_for, never_broken}
@@ -91,7 +92,7 @@ start_heads : (p : Profile) (b : outbox.Account) (f : Frame) (w : Work) (room : 
 start_heads p b f w true room = rw room (inr (refl, refl, refl))
 start_heads p b f w false room = rw room (inr (refl, refl, refl))
 
-get_heads : (p : Profile) (b : outbox.Account) (d : Parameters) (f : Frame) (v : Answer) → (f.class == 0x20) ≡ true → got d f.sub f.pid f.body ≡ v → Heads f (response_of p b f v)
+pub get_heads : (p : Profile) (b : outbox.Account) (d : Parameters) (f : Frame) (v : Answer) → (f.class == 0x20) ≡ true → got d f.sub f.pid f.body ≡ v → Heads f (response_of p b f v)
 get_heads p b d f (Reply bytes) class e = inr (refl, refl, refl)
 get_heads p b d f (Start w) class e = start_heads p b f w (has_room b w) refl
 get_heads p b d f (Queue ask) class e = inl (fetched f 0x0020 class (get_queues d f.sub f.pid f.body ask e).0 refl)
@@ -99,45 +100,13 @@ get_heads p b d f (Status ask) class e = inl (fetched f 0x0030 class (get_status
 get_heads p b d f Clear class e = inr (refl, refl, refl)
 get_heads p b d f (Refuse n) class e = inr (refl, refl, refl)
 
-set_heads : (p : Profile) (b : outbox.Account) (d : Parameters) (f : Frame) (v : Answer) → answer_to_set d f.sub f.pid f.body ≡ v → Heads f (response_of p b f v)
+pub set_heads : (p : Profile) (b : outbox.Account) (d : Parameters) (f : Frame) (v : Answer) → answer_to_set d f.sub f.pid f.body ≡ v → Heads f (response_of p b f v)
 set_heads p b d f (Reply bytes) e = inr (refl, refl, refl)
 set_heads p b d f (Start w) e = start_heads p b f w (has_room b w) refl
 set_heads p b d f (Queue ask) e = absurd ((set_fetches_nothing d f.sub f.pid f.body ask).0 e)
 set_heads p b d f (Status ask) e = absurd ((set_fetches_nothing d f.sub f.pid f.body ask).1 e)
 set_heads p b d f Clear e = inr (refl, refl, refl)
 set_heads p b d f (Refuse n) e = inr (refl, refl, refl)
-
--- ---- what is asked
-
-abbrev Facts : Frame → Request → Type 0
-Facts f (Get g) = (g ≡ f) × ((f.class == 0x20) ≡ true)
-Facts f (Set g) = (g ≡ f) × ((f.class == 0x30) ≡ true)
-Facts f _ = Unit {0}
-
-discovery_facts : (f : Frame) (root branch mute un_mute : Bool) → Facts f (cond root (cond branch (Branch (uid_at f.body 0) (uid_at f.body 6)) (cond mute (Muting true f) (cond un_mute (Muting false f) Ignored))) Ignored)
-discovery_facts f true true mute un_mute = tt
-discovery_facts f true false true un_mute = tt
-discovery_facts f true false false true = tt
-discovery_facts f true false false false = tt
-discovery_facts f false branch mute un_mute = tt
-
-discovery_is : (f : Frame) → Facts f (discovery_of f)
-unfolding discovery_of
-discovery_is f = discovery_facts f (f.sub == 0) ((f.pid == 0x0001) && (length f.body == 12)) ((f.pid == 0x0002) && (length f.body == 0)) ((f.pid == 0x0003) && (length f.body == 0))
-
-get_facts : (f : Frame) (broadcast : Bool) → (f.class == 0x20) ≡ true → Facts f (cond broadcast Ignored (Get f))
-get_facts f true e = tt
-get_facts f false e = (refl, e)
-
-request_facts : (f : Frame) (here discovery get set : Bool) → (f.class == 0x20) ≡ get → (f.class == 0x30) ≡ set → Facts f (cond here (cond discovery (discovery_of f) (cond get (get_of f) (cond set (Set f) Ignored))) Ignored)
-request_facts f true true get set g s = discovery_is f
-request_facts f true false true set g s = get_facts f (is_broadcast f.dst) g
-request_facts f true false false true g s = (refl, s)
-request_facts f true false false false g s = tt
-request_facts f false discovery get set g s = tt
-
-request_is : (own : Uid) (f : Frame) → Facts f (request_of own f)
-request_is own f = request_facts f (is_addressed own f.dst) (f.class == 0x10) (f.class == 0x20) (f.class == 0x30) refl refl
 
 -- ---- two accounts of one fixture
 
@@ -149,14 +118,14 @@ record Twins (own : Uid) (profile : Profile) (a c : Account) : Type 0 where
   second_profile : c.parameters.profile ≡ profile
   devices : SameDevices a.parameters c.parameters
 
-abbrev as_own : Uid → Profile → Account → Request → Option (List ℕ)
+abbrev pub as_own : Uid → Profile → Account → Request → Option (List ℕ)
 as_own own profile a Ignored = None
 as_own own profile a (Branch lower upper) = cond (not (is_muted a.mutings) && is_between lower own upper) (Some (branch_reply own)) None
 as_own own profile a (Muting muted f) = answer_with own f 0 (ack f (control_field a.parameters))
 as_own own profile a (Get f) = reply_with own profile a.outbox f (got a.parameters f.sub f.pid f.body)
 as_own own profile a (Set f) = reply_with own profile a.outbox f (answer_to_set a.parameters f.sub f.pid f.body)
 
-is_own : (own : Uid) (profile : Profile) (a : Account) (r : Request) → a.setup.uid ≡ own → a.parameters.profile ≡ profile → answer_to a r ≡ as_own own profile a r
+pub is_own : (own : Uid) (profile : Profile) (a : Account) (r : Request) → a.setup.uid ≡ own → a.parameters.profile ≡ profile → answer_to a r ≡ as_own own profile a r
 is_own own profile a Ignored u p = refl
 is_own own profile a (Branch lower upper) u p = ap (λ (x : Uid). as_own x profile a (Branch lower upper)) u
 is_own own profile a (Muting muted f) u p = ap (λ (x : Uid). as_own x profile a (Muting muted f)) u

@@ -31,20 +31,20 @@ abbrev pub frame_for : Uid → Frame → ℕ → Response → Frame
 frame_for own f count r = record { dst = f.src; src = own; tn = f.tn; port = r.port; count = count; sub = r.sub; class = r.class; pid = r.pid; body = r.body }
 
 -- what is read of a number in so many slots
-abbrev word : ℕ → ℕ
+abbrev pub word : ℕ → ℕ
 word n = from_be_bytes w16 (to_be_bytes w16 n)
 
-abbrev uid : Uid → Uid
+abbrev pub uid : Uid → Uid
 uid u = record { maker = word u.maker; device = from_be_bytes w32 (to_be_bytes w32 u.device) }
 
-abbrev behind : Frame → List ℕ
+abbrev pub behind : Frame → List ℕ
 behind x = to_be_bytes w16 (sum (head_slots x ++ x.body) % 65536)
 
 -- what is read of the text of a frame
-abbrev seen : Frame → Frame
+abbrev pub seen : Frame → Frame
 seen x = record { dst = uid x.dst; src = uid x.src; tn = x.tn; port = x.port; count = x.count; sub = word x.sub; class = x.class; pid = word x.pid; body = take (length x.body) (x.body ++ behind x) }
 
-read_of : (x : Frame) → frame_of (frame_text x) ≡ seen x
+pub read_of : (x : Frame) → frame_of (frame_text x) ≡ seen x
 unfolding frame_of frame_text head_slots
 read_of x = refl
 

@@ -86,7 +86,7 @@ fn acks_beside(given: (u8, u16), reply: (u8, u16)) -> Option<Rule>
 }
 
 /// A rule that is broken unless this holds.
-fn rule_unless(kept: bool, rule: Rule) -> Option<Rule>
+pub(crate) fn rule_unless(kept: bool, rule: Rule) -> Option<Rule>
     ensures { result ≡ rule_unless kept rule }
 {
     if kept { None } else { Some(rule) }
@@ -146,7 +146,7 @@ fn is_set(request: &FrameView<'_>) -> bool
 }
 
 /// Whether it is a GET that fetches what waits in the fixture (sections 10.3.1 and 10.3.2).
-fn fetches(request: &FrameView<'_>) -> bool
+pub(crate) fn fetches(request: &FrameView<'_>) -> bool
     ensures { result ≡ fetches request.now }
 {
     request.class == GET_COMMAND

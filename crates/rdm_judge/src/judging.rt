@@ -130,7 +130,7 @@ fn on_silence(own: Uid, reply: &[u8]) -> Verdict
 }
 
 /// Whether a frame is from the device with this UID.
-fn is_from(own: Uid, reply: &FrameView<'_>) -> bool
+pub(crate) fn is_from(own: Uid, reply: &FrameView<'_>) -> bool
     ensures { result ≡ same_uid reply.now.src own }
 {
     reply.src.maker == own.maker && reply.src.device == own.device

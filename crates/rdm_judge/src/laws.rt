@@ -2,6 +2,7 @@
 
 ghost use Rattle.std.specs.Prelude.{◌≡◌, ◌↔◌, IsTrue};
 ghost use Rattle.rdm_judge.specs.Judging.{NeverWrong};
+ghost use Rattle.rdm_judge.specs.Seen.{NoCaptureIsWrong};
 
 use crate::verdict::{Doubt, Rule, Verdict};
 
@@ -9,6 +10,12 @@ use crate::verdict::{Doubt, Rule, Verdict};
 /// one that no history of the fixture gives: no values that it keeps, no jobs that end, no turn of its menu.
 pub fn no_history_is_judged_wrong()
     ensures { NeverWrong }
+{}
+
+/// No reply in a capture of a fixture is judged wrong by what the capture showed before it, whatever happened to the fixture before and
+/// between its requests, whichever of these it missed and whichever of its replies were lost, and whatever history the twin has.
+pub fn no_capture_is_judged_wrong()
+    ensures { NoCaptureIsWrong }
 {}
 
 /// Two rules are equal by `==` exactly when they are the same.

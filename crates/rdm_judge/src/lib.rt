@@ -9,11 +9,13 @@ mod asked;
 mod comparing;
 mod judging;
 mod laws;
+mod seen;
 mod verdict;
 
 pub use judging::judge;
 pub use laws::{
-    doubts_are_equal_by_value, no_history_is_judged_wrong, rules_are_equal_by_value,
-    verdicts_are_equal_by_value,
+    doubts_are_equal_by_value, no_capture_is_judged_wrong, no_history_is_judged_wrong,
+    rules_are_equal_by_value, verdicts_are_equal_by_value,
 };
+pub use seen::Seen;
 pub use verdict::{Doubt, Judged, Rule, Verdict};

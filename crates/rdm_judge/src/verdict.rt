@@ -53,6 +53,15 @@ pub enum Rule {
     /// The response to DISC_MUTE and DISC_UN_MUTE has the control field, and nothing else that could differ (section 7.6).
     #[error("wrong response to a mute")]
     Mute,
+    /// A device that has answered DISC_MUTE, and has received no DISC_UN_MUTE since, doesn't answer DISC_UNIQUE_BRANCH (section 7.6).
+    #[error("the device is muted")]
+    Muted,
+    /// QUEUED_MESSAGE that asks for the last message gets the message again that QUEUED_MESSAGE got before (section 10.3.1).
+    #[error("not the last message again")]
+    LastMessage,
+    /// The message count falls by one at most with each QUEUED_MESSAGE, and by nothing else (section 6.2.8).
+    #[error("too few messages wait")]
+    Count,
 }
 
 impl Rule {
@@ -67,7 +76,9 @@ impl Rule {
             Rule::ResponseType => "6.3",
             Rule::Reason => "6.3.4",
             Rule::Estimate => "6.3.3",
-            Rule::Mute => "7.6",
+            Rule::Mute | Rule::Muted => "7.6",
+            Rule::LastMessage => "10.3.1",
+            Rule::Count => "6.2.8",
         }
     }
 }

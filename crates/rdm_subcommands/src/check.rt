@@ -13,7 +13,7 @@ use rdm_host::fault::Fault;
 use rdm_host::fixture::{DEMONSTRATION, FixtureFile, demonstration};
 use rdm_host::host::Host;
 use rdm_host::source::{Source, print, refuse_clashes, without_mark};
-use rdm_judge::{Judged, Verdict, judge};
+use rdm_judge::{Judged, Seen, Verdict};
 use rdm_params::{Kind, Outcome};
 use rdm_responder::{Report, Responder};
 use rdm_trace::{JobName, Line, TraceError, lines_of};
@@ -35,6 +35,7 @@ pub fn run<'a, H: Host>(rt: H, asked: &ArgMatches<'a>) -> Result<(), Fault<'a>> 
     let mut twin = twin(rt, fixture)?;
     let mut session = Session {
         known: &known,
+        seen: Seen::new(),
         is_whole: asked.get_flag(rdm_usage::ALL),
         count: 0,
         right: 0,
@@ -94,6 +95,8 @@ fn place(twin: &mut Responder, kind: Kind, bytes: &[u8]) {
 struct Session<'k> {
     /// What frames don't say of the fixture.
     known: &'k Known<'k>,
+    /// What the replies so far say of it.
+    seen: Seen,
     /// Whether the replies that aren't wrong are printed, too.
     is_whole: bool,
     /// How many requests there were.
@@ -160,7 +163,7 @@ impl Session<'_> {
             [_, Line::Reply(Some(reply)), ..] => Some(reply.as_slice()),
             _ => None,
         };
-        let judged = judge(twin, request.as_slice(), reply);
+        let judged = self.seen.judge(twin, request.as_slice(), reply);
         match judged.verdict {
             Verdict::Right => self.right = self.right.saturating_add(1),
             Verdict::Wrong(_) => self.wrong = self.wrong.saturating_add(1),

@@ -1,7 +1,7 @@
 //! Replies that are judged beside a fixture with one sub-device: worked out by hand from the reply rules.
 
 use super::{DEVICE, printed};
-use rdm_judge::{Doubt, Rule, Verdict, judge};
+use rdm_judge::{Doubt, Rule, Seen, Verdict, judge};
 use rdm_params::Profile;
 use rdm_responder::Responder;
 use std::alloc::Global;
@@ -110,6 +110,184 @@ const ROWS: &[Row] = &[
     ),
 ];
 
+/// A capture, from its first request on: what a reply says holds for those after it.
+const CAPTURE: &[Row] = &[
+    // DISC_MUTE is answered, so DISC_UNIQUE_BRANCH isn't to be. Another DISC_MUTE of which no reply came leaves the device muted.
+    (
+        "CC0118 7FF000000001 7FF000000002 00 01 00 0000 10 0002 00 03D9",
+        Some("CC011A 7FF000000002 7FF000000001 00 00 00 0000 11 0002 02 0002 03DF"),
+        Verdict::Right,
+    ),
+    (
+        "CC0124 FFFFFFFFFFFF 7FF000000002 01 01 00 0000 10 0001 0C 000000000000FFFFFFFFFFFF 0E75",
+        Some("FEFEFEFEFEFEFEAA FF7FFAF5AA55AA55AA55AB55 AF57EA7F"),
+        Verdict::Wrong(Rule::Muted),
+    ),
+    (
+        "CC0118 7FF000000001 7FF000000002 02 01 00 0000 10 0002 00 03DB",
+        None,
+        Verdict::Open(Doubt::Lost),
+    ),
+    (
+        "CC0124 FFFFFFFFFFFF 7FF000000002 03 01 00 0000 10 0001 0C 000000000000FFFFFFFFFFFF 0E77",
+        Some("FEFEFEFEFEFEFEAA FF7FFAF5AA55AA55AA55AB55 AF57EA7F"),
+        Verdict::Wrong(Rule::Muted),
+    ),
+    // DISC_UN_MUTE goes to all devices. Whether this one received it isn't known, so it may answer, and it may be muted still.
+    (
+        "CC0118 FFFFFFFFFFFF 7FF000000002 04 01 00 0000 10 0003 00 0868",
+        None,
+        Verdict::Right,
+    ),
+    (
+        "CC0124 FFFFFFFFFFFF 7FF000000002 05 01 00 0000 10 0001 0C 000000000000FFFFFFFFFFFF 0E79",
+        Some("FEFEFEFEFEFEFEAA FF7FFAF5AA55AA55AA55AB55 AF57EA7F"),
+        Verdict::Right,
+    ),
+    // No reply to DISC_MUTE came: the twin is muted, but the device may have missed it.
+    (
+        "CC0118 7FF000000001 7FF000000002 06 01 00 0000 10 0002 00 03DF",
+        None,
+        Verdict::Open(Doubt::Lost),
+    ),
+    (
+        "CC0124 FFFFFFFFFFFF 7FF000000002 07 01 00 0000 10 0001 0C 000000000000FFFFFFFFFFFF 0E7B",
+        Some("FEFEFEFEFEFEFEAA FF7FFAF5AA55AA55AA55AB55 AF57EA7F"),
+        Verdict::Open(Doubt::Muted),
+    ),
+    // A reply to DISC_MUTE with another transaction number doesn't show that this one was received.
+    (
+        "CC0118 7FF000000001 7FF000000002 08 01 00 0000 10 0002 00 03E1",
+        Some("CC011A 7FF000000002 7FF000000001 07 00 00 0000 11 0002 02 0002 03E6"),
+        Verdict::Wrong(Rule::TransactionNumber),
+    ),
+    (
+        "CC0124 FFFFFFFFFFFF 7FF000000002 09 01 00 0000 10 0001 0C 000000000000FFFFFFFFFFFF 0E7D",
+        Some("FEFEFEFEFEFEFEAA FF7FFAF5AA55AA55AA55AB55 AF57EA7F"),
+        Verdict::Open(Doubt::Muted),
+    ),
+    // The last message isn't known yet. QUEUED_MESSAGE gets the message of a changed label, which the twin doesn't have; then that is the
+    // last message, and neither the empty status message nor another label is, the twin's or not.
+    (
+        "CC0119 7FF000000001 7FF000000002 0A 01 00 0000 20 0020 01 01 0414",
+        Some("CC0118 7FF000000002 7FF000000001 0A 00 00 0000 21 0030 00 0421"),
+        Verdict::Right,
+    ),
+    (
+        "CC0119 7FF000000001 7FF000000002 0B 01 00 0000 20 0020 01 04 0418",
+        Some("CC0119 7FF000000002 7FF000000001 0B 00 00 0000 21 0082 01 41 04B7"),
+        Verdict::Open(Doubt::Kept),
+    ),
+    (
+        "CC0119 7FF000000001 7FF000000002 0C 01 00 0000 20 0020 01 01 0416",
+        Some("CC0119 7FF000000002 7FF000000001 0C 00 00 0000 21 0082 01 41 04B8"),
+        Verdict::Open(Doubt::Kept),
+    ),
+    (
+        "CC0119 7FF000000001 7FF000000002 0D 01 00 0000 20 0020 01 01 0417",
+        Some("CC0118 7FF000000002 7FF000000001 0D 00 00 0000 21 0030 00 0424"),
+        Verdict::Wrong(Rule::LastMessage),
+    ),
+    // A reply that is lost may be any message, so the one before it is the last message no more.
+    (
+        "CC0119 7FF000000001 7FF000000002 0E 01 00 0000 20 0020 01 04 041B",
+        None,
+        Verdict::Open(Doubt::Lost),
+    ),
+    (
+        "CC0119 7FF000000001 7FF000000002 0F 01 00 0000 20 0020 01 01 0419",
+        Some("CC0119 7FF000000002 7FF000000001 0F 00 00 0000 21 0082 01 42 04BC"),
+        Verdict::Open(Doubt::Kept),
+    ),
+    (
+        "CC0119 7FF000000001 7FF000000002 10 01 00 0000 20 0020 01 01 041A",
+        Some("CC0119 7FF000000002 7FF000000001 10 00 00 0000 21 0082 01 41 04BC"),
+        Verdict::Wrong(Rule::LastMessage),
+    ),
+    // STATUS_MESSAGES gives a last message, too, and a GET of another parameter doesn't. Sub-device 1 has no QUEUED_MESSAGE.
+    (
+        "CC0119 7FF000000001 7FF000000002 11 01 00 0000 20 0020 01 04 041E",
+        Some("CC0119 7FF000000002 7FF000000001 11 00 00 0000 21 0082 01 43 04BF"),
+        Verdict::Open(Doubt::Kept),
+    ),
+    (
+        "CC0118 7FF000000001 7FF000000002 12 01 00 0000 20 1000 00 0409",
+        Some("CC0119 7FF000000002 7FF000000001 12 00 00 0000 21 1000 01 00 040B"),
+        Verdict::Right,
+    ),
+    (
+        "CC0119 7FF000000001 7FF000000002 13 01 00 0000 20 0020 01 01 041D",
+        Some("CC0118 7FF000000002 7FF000000001 13 00 00 0000 21 0030 00 042A"),
+        Verdict::Wrong(Rule::LastMessage),
+    ),
+    (
+        "CC0119 7FF000000001 7FF000000002 14 01 00 0000 20 0020 01 04 0421",
+        Some("CC0119 7FF000000002 7FF000000001 14 00 00 0000 21 0082 01 43 04C2"),
+        Verdict::Open(Doubt::Kept),
+    ),
+    (
+        "CC0119 7FF000000001 7FF000000002 15 01 00 0000 20 0030 01 04 0432",
+        Some("CC0118 7FF000000002 7FF000000001 15 00 00 0000 21 0030 00 042C"),
+        Verdict::Right,
+    ),
+    (
+        "CC0119 7FF000000001 7FF000000002 16 01 00 0000 20 0020 01 01 0420",
+        Some("CC0118 7FF000000002 7FF000000001 16 00 00 0000 21 0030 00 042D"),
+        Verdict::Right,
+    ),
+    // Three messages wait. One fewer may wait after each QUEUED_MESSAGE, lost or not, and none fewer after anything else.
+    (
+        "CC0118 7FF000000001 7FF000000002 17 01 00 0000 20 1000 00 040E",
+        Some("CC0119 7FF000000002 7FF000000001 17 00 03 0000 21 1000 01 00 0413"),
+        Verdict::Open(Doubt::Kept),
+    ),
+    (
+        "CC0119 7FF000000001 7FF000000002 18 01 00 0000 20 0020 01 04 0425",
+        None,
+        Verdict::Open(Doubt::Lost),
+    ),
+    (
+        "CC0118 7FF000000001 7FF000000002 19 01 00 0000 20 1000 00 0410",
+        Some("CC0119 7FF000000002 7FF000000001 19 00 02 0000 21 1000 01 00 0414"),
+        Verdict::Open(Doubt::Kept),
+    ),
+    (
+        "CC0118 7FF000000001 7FF000000002 1A 01 00 0000 20 1000 00 0411",
+        Some("CC0119 7FF000000002 7FF000000001 1A 00 01 0000 21 1000 01 00 0414"),
+        Verdict::Wrong(Rule::Count),
+    ),
+    (
+        "CC0118 7FF000000001 7FF000000002 1B 01 00 0000 20 1000 00 0412",
+        Some("CC0119 7FF000000002 7FF000000001 1B 00 00 0000 21 1000 01 00 0414"),
+        Verdict::Wrong(Rule::Count),
+    ),
+    (
+        "CC0118 7FF000000001 7FF000000002 1C 01 00 0000 20 1000 00 0413",
+        Some("CC0119 7FF000000002 7FF000000001 1C 00 FF 0000 21 1000 01 00 0514"),
+        Verdict::Open(Doubt::Kept),
+    ),
+    (
+        "CC0119 7FF000000001 7FF000000002 1D 01 00 0000 20 0020 01 04 042A",
+        Some("CC0119 7FF000000002 7FF000000001 1D 00 FE 0000 21 0082 01 44 05CA"),
+        Verdict::Open(Doubt::Kept),
+    ),
+    (
+        "CC0119 7FF000000001 7FF000000002 1E 01 00 0000 20 0020 01 01 0428",
+        Some("CC0119 7FF000000002 7FF000000001 1E 00 FD 0000 21 0082 01 44 05CA"),
+        Verdict::Wrong(Rule::Count),
+    ),
+    (
+        "CC0119 7FF000000001 7FF000000002 1F 01 00 0000 20 0020 01 04 042C",
+        Some("CC0119 7FF000000002 7FF000000001 1F 00 FC 0000 21 0082 01 45 05CB"),
+        Verdict::Open(Doubt::Kept),
+    ),
+    (
+        "CC0119 7FF000000001 7FF000000002 20 01 00 0000 30 1000 01 00 0429",
+        Some("CC0118 7FF000000002 7FF000000001 20 00 FB 0000 31 1000 00 0522"),
+        Verdict::Wrong(Rule::Count),
+    ),
+];
+
 #[test]
 fn replies_are_judged(rt: HostRuntime) -> Result<(), rdm_responder::NewError> {
     let mut twin = Responder::new(rt.alloc(), DEVICE, Profile::demo(1), 8)?;
@@ -117,6 +295,19 @@ fn replies_are_judged(rt: HostRuntime) -> Result<(), rdm_responder::NewError> {
         let reply = reply.map(|text| printed(&rt, text));
         let heard = reply.as_ref().map(|wire| wire.as_slice());
         let judged = judge(&mut twin, printed(&rt, request).as_slice(), heard);
+        assert_eq!(rt; judged.verdict, *verdict);
+    }
+    Ok(())
+}
+
+#[test]
+fn captures_are_judged(rt: HostRuntime) -> Result<(), rdm_responder::NewError> {
+    let mut twin = Responder::new(rt.alloc(), DEVICE, Profile::demo(1), 8)?;
+    let mut seen = Seen::new();
+    for (request, reply, verdict) in CAPTURE {
+        let reply = reply.map(|text| printed(&rt, text));
+        let heard = reply.as_ref().map(|wire| wire.as_slice());
+        let judged = seen.judge(&mut twin, printed(&rt, request).as_slice(), heard);
         assert_eq!(rt; judged.verdict, *verdict);
     }
     Ok(())
