@@ -151,7 +151,7 @@ def check(modules, program, path, room, is_writing):
 
 
 def run(program, is_writing):
-    """Runs the tests on each fixture of this program, tells what came of it, and returns whether each ended as its file says."""
+    """Runs the tests on each fixture of this program, reports the result, and returns whether each ended as its file says."""
     end_within(MOST_SECONDS)
     # The tests log each request; what is wanted of that is in their `debug` too.
     logging.disable()

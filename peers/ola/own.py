@@ -33,7 +33,7 @@ FIXTURES = [
 
 
 def play(program, new_session):
-    """Plays the steps of each with this program, tells what came of them, and returns whether each step printed what it must."""
+    """Plays the steps of each with this program, reports the results, and returns whether each step printed what it must."""
     end_within(MOST_SECONDS)
     # Each is played, also if the one before went wrong.
     return all([play_one(program, new_session, fixture) for fixture in FIXTURES])

@@ -2,11 +2,11 @@
 """Plays the session of steps/ on the virtual fixture through olad, commands whole rigs and a fixture with parameters of its maker's own,
 and then runs OLA's own device tests.
 
-    python3 play.py PROGRAM            compares what comes of it with what must
-    python3 play.py PROGRAM --write    writes the files of device_tests/ anew, and keeps their comments
+    python3 play.py PROGRAM            compares the result with what it must be
+    python3 play.py PROGRAM --write    rewrites the files of device_tests/, and keeps their comments
 
 PROGRAM is the fixture's program. The status is 0 if each step printed what it must and each test ended as it must, and 1 if one
-didn't, or the session couldn't be played. What is left out is told, and written to the file that SKIPPED names, if it names one.
+didn't, or the session couldn't be played. What is left out is reported, and written to the file that SKIPPED names, if it names one.
 """
 import os
 import sys
@@ -29,7 +29,7 @@ def leave_out(why):
 
 
 def main():
-    """Plays both, and tells what came of them."""
+    """Plays both, and reports the results."""
     program, is_writing = sys.argv[1], sys.argv[2:] == ["--write"]
     try:
         is_well = session.play(program)

@@ -1,7 +1,7 @@
 #!/usr/bin/env python3
 """Lets `felosumay line` command devices that others wrote, OLA's own responders, and then our virtual fixtures.
 
-    python3 responders.py PROGRAM RESPONDERS            compares what comes of it with responders/
+    python3 responders.py PROGRAM RESPONDERS            compares the result with responders/
     python3 responders.py PROGRAM RESPONDERS --write    writes anew how each GET is answered, and keeps the comments
 
 PROGRAM is felosumay, and RESPONDERS what responders.cpp is built to. The status is 0 if everything is answered as it must be.
@@ -320,7 +320,7 @@ def check_more_of_ours(console, devices, _room):
 
 
 def main():
-    """Commands both, and tells what came of it."""
+    """Commands both, and reports the result."""
     responders, is_writing = sys.argv[2], sys.argv[3:] == ["--write"]
     end_within(MOST_SECONDS)
     try:

@@ -60,7 +60,7 @@ def rig_steps(rig):
 
 
 def play_rig(session, program, rig, room):
-    """Plays the steps of a rig, and tells what came of it."""
+    """Plays the steps of a rig, and reports the result."""
     begun, played, wrong = time.monotonic(), session.played, session.wrong
     with line(room / rig.name, rig.program(program)):
         for uid, step in rig_steps(rig):

@@ -80,7 +80,7 @@ def play_all(program, room):
 
 
 def play(program):
-    """Plays the session on the fixture of this program, tells what came of it, and returns whether each step printed what it must."""
+    """Plays the session on the fixture of this program, reports the result, and returns whether each step printed what it must."""
     begun = time.monotonic()
     end_within(MOST_SECONDS)
     with new_room() as room:
