@@ -11,11 +11,11 @@ TOP = Path(__file__).resolve().parent.parent
 FILES = """
 The program has no settings, and keeps no file of its own. It writes those that an option or a command names, and no other:
 .TP
-the chart of \\fB\\-\\-chart\\fR and \\fB\\-\\-output\\fR
-is written anew.
+the files of \\fB\\-\\-chart\\fR, \\fB\\-\\-output\\fR and \\fB\\-\\-junit\\fR
+are overwritten: charts, and JUnit XML.
 .TP
-the trace of \\fBline \\-\\-trace\\fR
-is written anew, line by line as it comes. With \\fB\\-\\-trace\\-as pcapng\\fR it is a capture, which Wireshark opens.
+the trace of \\fBline \\-\\-trace\\fR and \\fBtest \\-\\-trace\\fR
+is overwritten, line by line as it comes. With \\fB\\-\\-trace\\-as pcapng\\fR it is a capture, which Wireshark opens.
 .TP
 the values of \\fBwidget \\-\\-saved\\fR
 are those of a fixture. The file is read when the fixture starts, and written when a value changes.
@@ -26,7 +26,7 @@ is a file of JSON, which \\fBline compare\\fR and \\fBline restore\\fR read.
 the port of \\fBline \\-\\-port\\fR
 is a terminal device, such as
 .IR /dev/ttyUSB0 .
-It is locked while the program runs, so that a second console is refused. \\fBfelosumay\\-line\\fR(1) sets it.
+It is locked while the program runs, so that a second console is rejected. \\fBfelosumay\\-line\\fR(1) sets it.
 .TP
 .I @DOC@/examples
 has scripts, fixture files and traces.
@@ -62,7 +62,7 @@ felosumay\\-line \\- Set the port of an interface, and be a console on its line
 Sets a serial port as \\fBfelosumay line\\fR needs it (\\fBstty raw \\-echo min 0 time 1\\fR), keeps it open, and calls
 \\fBfelosumay line \\-\\-port\\fR
 .I PORT COMMAND
-with all further words. A \\fIPORT\\fR that isn't a terminal device is refused, and nothing is written to it.
+with all further words. A \\fIPORT\\fR that isn't a terminal device is rejected, and nothing is written to it.
 .PP
 The commands are those of \\fBfelosumay line\\fR: \\fBfelosumay\\fR(1) has them.
 .SH EXIT STATUS
@@ -145,14 +145,15 @@ def felosumay(top, commands):
     for command in commands:
         out += [".B " + roff(command.usage), ".br"]
     out[-1] = ".SH DESCRIPTION"
-    out += [roff("felosumay plays scripts of commands of Remote Device Management (RDM, ANSI E1.20), decodes and draws what goes over a line, "
-                 "is a virtual fixture or a rig of them, and a console on a real line."), ".PP",
+    out += [roff("felosumay plays scripts of commands of Remote Device Management (RDM, ANSI E1.20). It decodes and draws what goes over a "
+                 "line, and checks replies against the rules of the standard. It simulates a fixture or a rig of them. On a real line it is "
+                 "a console, and tests devices."), ".PP",
             roff("A file that is named - is standard input or standard output."), ".SH OPTIONS", *rows(top.options), ".SH COMMANDS"]
     said = {option.words for option in top.options}
     for command in commands:
         out += command_rows(command, said)
         if command.commands:
-            out += [".PP", "These options may stand before its command or behind it. Each command is below."]
+            out += [".PP", "These options may come before its command or after it. Each command is below."]
             said |= {option.words for option in command.options}
     out.append(".SH EXIT STATUS")
     for one in re.split(r", (?:and )?", statuses):
