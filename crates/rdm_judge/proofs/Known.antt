@@ -1,5 +1,5 @@
 -- What a capture shows of a fixture is so.
-use Rattle.std.proofs.Common.{◌≡◌, ℕ, ◌-◌, ◌≤◌, ◌==◌, ◌&&◌, min, Bool, true, false, not, cond, List, [], ◌∷◌, ◌++◌, length, Option, Some, None, inl, inr, refl, sym, ap, subst, ◌∙◌, arith, length-append}
+use Rattle.std.proofs.Common.{◌≡◌, ℕ, ◌-◌, ◌≤◌, ◌==◌, ◌&&◌, min, Bool, true, false, not, cond, List, [], ◌∷◌, ◌++◌, length, Option, Some, None, refl, sym, ap, subst, ◌∙◌, arith, length-append}
 use Rattle.std.specs.Prelude.{fold, nat_le}
 use Rattle.std.specs.List.{list_all}
 use Rattle.std.specs.Str.{bytes_eq}
@@ -15,13 +15,11 @@ use Rattle.rdm_frame.specs.Discovery.{branch_reply}
 use Rattle.rdm_frame.specs.FrameText.{frame_text}
 use Rattle.rdm_frame.specs.Reading.{frame_in, frame_of}
 use Rattle.rdm_profile.specs.declared.profile.Profile.{Profile}
-use Rattle.rdm_commands.specs.declared.jobs.ask.Ask.TheVariants as asks
 use Rattle.rdm_commands.specs.declared.verdict.Verdict.{Verdict as Answer}
-use Rattle.rdm_commands.specs.declared.verdict.Verdict.TheVariants.{Queue}
 use Rattle.rdm_params.specs.Commands.Commands.{answer_to_set, got}
 use Rattle.rdm_outbox.specs.Account as outbox
 use Rattle.rdm_outbox.specs.Jobs.{waiting_of}
-use Rattle.rdm_outbox.specs.Messages.{dispensed, last_of}
+use Rattle.rdm_outbox.specs.Messages.{dispensed, last_of, status_dispensed}
 use Rattle.rdm_responder.specs.History.{Event}
 use Rattle.rdm_responder.specs.Requests.{Request, Ignored, Branch, Muting, Get, Set}
 use Rattle.rdm_responder.specs.Rules.{Account, Response, account_after, account_with, ack_message, answer_with, is_between, is_muted, message_count, outbox_after, reply_with, response_of}
@@ -32,9 +30,9 @@ use Rattle.rdm_judge.specs.declared.verdict.Rule.TheVariants as rules
 use Rattle.rdm_judge.specs.Judging.{asked_with, fetches, rule_unless}
 use Rattle.rdm_judge.specs.Seen.{IsLost, after_request, asks_again, fewest, frame_seen, is_another, is_branch_reply, is_unseen, last_after, message_of, muted_after, polls, response_to, rule_of, rule_on, same_message}
 use Rattle.rdm_judge.proofs.RequestFacts.{Facts}
-use Rattle.rdm_judge.proofs.Messages.{Later, dispensed_is_last, fewer_by_one, gives_none, no_fewer, queue_not, same_last, unseen_later}
+use Rattle.rdm_judge.proofs.Messages.{Later, dispensed_is_last, fewer_by_one, gives_none, no_fewer, queue_not, same_last, status_is_last, unseen_later}
 use Rattle.rdm_judge.proofs.NeverWrong.{as_own}
-use Rattle.rdm_judge.proofs.Polls.{Gives, get_gives, set_gives}
+use Rattle.rdm_judge.proofs.Polls.{Again, Given, Gives, NoneAgain, Queued, QueuedAgain, Refused, Shown, ShownAgain, get_gives, set_gives}
 use Rattle.rdm_judge.proofs.Responses.{frame_for, read_of, seen, word}
 
 -- a message as it is read from a response
@@ -77,11 +75,10 @@ unseen_known (e ∷ es) s a unseen known =
 
 -- ---- a request that the fixture missed
 
-kept_if : (poll again fetch : Bool) (last : Option Message) (m : Message) → cond poll (cond again last None) (cond fetch None last) ≡ Some m → last ≡ Some m
-kept_if true true fetch last m e = e
-kept_if true false fetch last m e = absurd cc
-kept_if false again true last m e = absurd cc
-kept_if false again false last m e = e
+kept_if : (fetch again : Bool) (last : Option Message) (m : Message) → cond fetch (cond again last None) last ≡ Some m → last ≡ Some m
+kept_if true true last m e = e
+kept_if true false last m e = absurd cc
+kept_if false again last m e = e
 
 fewest_if : (next : Bool) (n : ℕ) → cond next (n - 1) n ≤ n
 fewest_if true n = omega arith
@@ -100,7 +97,7 @@ missed_known s a f asking.Mute known = record {
 }
 missed_known s a f asking.Command known = record {
   muted = known.muted;
-  last = λ (m : Message) (e : last_after s.last f None ≡ Some m). known.last m (kept_if (polls f) (asks_again f) (fetches f) s.last m e);
+  last = λ (m : Message) (e : last_after s.last f None ≡ Some m). known.last m (kept_if (fetches f) (asks_again f) s.last m e);
   waiting = let most = fewest_most s.waiting f in let first = known.waiting in omega (arith, most, first);
   bound = let most = fewest_most s.waiting f in let first = known.bound in omega (arith, most, first);
 }
@@ -108,20 +105,25 @@ missed_known s a f asking.Nothing known = known
 
 -- ---- a command that it received
 
-silent_at : (f : Frame) (b : outbox.Account) (v : Answer) (last : Option Message) (poll again fetch : Bool) → polls f ≡ poll → asks_again f ≡ again → fetches f ≡ fetch → Gives f v → IsLast last b → IsLast (cond poll (cond again last None) (cond fetch None last)) (outbox_after b v)
-silent_at f b v last true true fetch p a g gives known m e =
-    subst (λ (w : Answer). m ≡ as_read (last_of (outbox_after b w))) (sym (gives.again a)) (known m e)
-silent_at f b v last true false fetch p a g gives known m e = absurd cc
-silent_at f b v last false again true p a g gives known m e = absurd cc
-silent_at f b v last false again false p a g gives known m e =
+-- nothing comes of what asks for the last message again
+again_stays : (b : outbox.Account) (v : Answer) → Again v → outbox_after b v ≡ b
+again_stays b v (QueuedAgain e) = ap (outbox_after b) e
+again_stays b v (ShownAgain e) = ap (outbox_after b) e
+again_stays b v (NoneAgain nack e) = ap (outbox_after b) e
+
+silent_at : (f : Frame) (b : outbox.Account) (v : Answer) (last : Option Message) (fetch again : Bool) → fetches f ≡ fetch → asks_again f ≡ again → Gives f v → IsLast last b → IsLast (cond fetch (cond again last None) last) (outbox_after b v)
+silent_at f b v last true true g a gives known m e =
+    subst (λ (c : outbox.Account). m ≡ as_read (last_of c)) (sym (again_stays b v (gives.again a))) (known m e)
+silent_at f b v last true false g a gives known m e = absurd cc
+silent_at f b v last false again g a gives known m e =
     known m e ∙ ap as_read (sym (same_last b (outbox_after b v) (gives_none b v (gives.none g))))
 
 silent_last : (f : Frame) (b : outbox.Account) (v : Answer) (last : Option Message) → Gives f v → IsLast last b → IsLast (last_after last f None) (outbox_after b v)
-silent_last f b v last gives known = silent_at f b v last (polls f) (asks_again f) (fetches f) refl refl refl gives known
+silent_last f b v last gives known = silent_at f b v last (fetches f) (asks_again f) refl refl gives known
 
 waits_at : (f : Frame) (b : outbox.Account) (v : Answer) (n : ℕ) (poll again : Bool) → polls f ≡ poll → asks_again f ≡ again → Gives f v → n ≤ length (waiting_of b) → cond (poll && not again) (n - 1) n ≤ length (waiting_of (outbox_after b v))
 waits_at f b v n true true p a gives known =
-    subst (λ (w : Answer). n ≤ length (waiting_of (outbox_after b w))) (sym (gives.again a)) known
+    subst (λ (c : outbox.Account). n ≤ length (waiting_of c)) (sym (again_stays b v (gives.again a))) known
 waits_at f b v n true false p a gives known = let fewer = fewer_by_one b v in omega (arith, fewer, known)
 waits_at f b v n false again p a gives known = let most = queue_not b v (gives.not_polled p) in omega (arith, most, known)
 
@@ -154,22 +156,23 @@ some_is x y e = cc
 true_is_false : true ≡ false → ⊥
 true_is_false e = cc
 
--- the message of a response to QUEUED_MESSAGE that is an ACK
-polled_last : (own : Uid) (p : Profile) (b : outbox.Account) (f : Frame) (v : Answer) → polls f ≡ true → Gives f v → ((response_at own p b f v).port == 0) ≡ true → message_of (response_at own p b f v) ≡ as_read (last_of (outbox_after b v))
-polled_last own p b f v poll gives ack = elim (gives.polled poll) [
-  | inl queued ↦ subst (λ (w : Answer). message_of (response_at own p b f w) ≡ as_read (last_of (outbox_after b w))) (sym queued.1) (carried own f _ (dispensed b queued.0) ∙ ap as_read (sym (dispensed_is_last b queued.0)))
-  | inr refused ↦ absurd (true_is_false (sym ack ∙ ap (λ (w : Answer). (response_at own p b f w).port == 0) refused.1))
-]
+-- the message of a response that is an ACK
+given_last : (own : Uid) (p : Profile) (b : outbox.Account) (f : Frame) (v : Answer) → Given v → ((response_at own p b f v).port == 0) ≡ true → message_of (response_at own p b f v) ≡ as_read (last_of (outbox_after b v))
+given_last own p b f v (Queued ask e) ack =
+    subst (λ (w : Answer). message_of (response_at own p b f w) ≡ as_read (last_of (outbox_after b w))) (sym e) (carried own f _ (dispensed b ask) ∙ ap as_read (sym (dispensed_is_last b ask)))
+given_last own p b f v (Shown ask e) ack =
+    subst (λ (w : Answer). message_of (response_at own p b f w) ≡ as_read (last_of (outbox_after b w))) (sym e) (carried own f _ (status_dispensed b ask) ∙ ap as_read (sym (status_is_last b ask)))
+given_last own p b f v (Refused nack e) ack = absurd (true_is_false (sym ack ∙ ap (λ (w : Answer). (response_at own p b f w).port == 0) e))
 
-heard_at : (own : Uid) (p : Profile) (f : Frame) (b : outbox.Account) (v : Answer) (last : Option Message) (poll ack : Bool) → polls f ≡ poll → ((response_at own p b f v).port == 0) ≡ ack → Gives f v → IsLast last b → IsLast (cond poll (cond ack (Some (message_of (response_at own p b f v))) (cond (asks_again f) last None)) (cond (fetches f) None last)) (outbox_after b v)
-heard_at own p f b v last true true e ack gives known m is = sym (some_is _ _ is) ∙ polled_last own p b f v e gives ack
-heard_at own p f b v last true false e ack gives known m is = silent_at f b v last true (asks_again f) (fetches f) e refl refl gives known m is
-heard_at own p f b v last false ack e a gives known m is = silent_at f b v last false (asks_again f) (fetches f) e refl refl gives known m is
+heard_at : (own : Uid) (p : Profile) (f : Frame) (b : outbox.Account) (v : Answer) (last : Option Message) (fetch ack : Bool) → fetches f ≡ fetch → ((response_at own p b f v).port == 0) ≡ ack → Gives f v → IsLast last b → IsLast (cond fetch (cond ack (Some (message_of (response_at own p b f v))) (cond (asks_again f) last None)) last) (outbox_after b v)
+heard_at own p f b v last true true e ack gives known m is = sym (some_is _ _ is) ∙ given_last own p b f v (gives.fetched e) ack
+heard_at own p f b v last true false e ack gives known m is = silent_at f b v last true (asks_again f) e refl gives known m is
+heard_at own p f b v last false ack e a gives known m is = silent_at f b v last false (asks_again f) e refl gives known m is
 
 heard_known : (own : Uid) (p : Profile) (s : Seen) (a c : Account) (f : Frame) (v : Answer) → Gives f v → After a c v → IsKnown s a → IsKnown (after_request s f asking.Command (Some (response_at own p a.outbox f v))) c
 heard_known own p s a c f v gives after known = record {
   muted = λ (m : s.muted ≡ true). ap is_muted after.mutings ∙ known.muted m;
-  last = subst (λ (b : outbox.Account). IsLast (last_after s.last f (Some (response_at own p a.outbox f v))) b) (sym after.outbox_is) (heard_at own p f a.outbox v s.last (polls f) ((response_at own p a.outbox f v).port == 0) refl refl gives known.last);
+  last = subst (λ (b : outbox.Account). IsLast (last_after s.last f (Some (response_at own p a.outbox f v))) b) (sym after.outbox_is) (heard_at own p f a.outbox v s.last (fetches f) ((response_at own p a.outbox f v).port == 0) refl refl gives known.last);
   waiting = subst (λ (b : outbox.Account). message_count (outbox_after a.outbox v) ≤ length (waiting_of b)) (sym after.outbox_is) (omega arith);
   bound = omega arith;
 }
@@ -280,11 +283,16 @@ same_as_itself m = rw (eq-eqb m.class m.class refl, eq-eqb m.pid m.pid refl, eq-
 not_another : (port : Bool) (m n : Message) → m ≡ n → (port && not (same_message m n)) ≡ false
 not_another port m n e = subst (λ (x : Message). (port && not (same_message m x)) ≡ false) e (rw (same_as_itself m) (and_false port false refl))
 
-again_is : (own : Uid) (p : Profile) (b : outbox.Account) (f : Frame) (v : Answer) (last : Option Message) → v ≡ Queue asks.Last → IsLast last b → is_another last (response_at own p b f v) ≡ false
-again_is own p b f v None e known = refl
-again_is own p b f v (Some m) e known =
-    not_another ((response_at own p b f v).port == 0) m (message_of (response_at own p b f v))
-    (known m refl ∙ subst (λ (w : Answer). as_read (last_of b) ≡ message_of (response_at own p b f w)) (sym e) (sym (carried own f _ (last_of b))))
+same_again : (own : Uid) (p : Profile) (b : outbox.Account) (f : Frame) (v : Answer) (m : Message) → m ≡ as_read (last_of b) → as_read (last_of b) ≡ message_of (response_at own p b f v) → is_another (Some m) (response_at own p b f v) ≡ false
+same_again own p b f v m known same = not_another ((response_at own p b f v).port == 0) m (message_of (response_at own p b f v)) (known ∙ same)
+
+again_is : (own : Uid) (p : Profile) (b : outbox.Account) (f : Frame) (v : Answer) (last : Option Message) → Again v → IsLast last b → is_another last (response_at own p b f v) ≡ false
+again_is own p b f v None again known = refl
+again_is own p b f v (Some m) (QueuedAgain e) known =
+    same_again own p b f v m (known m refl) (subst (λ (w : Answer). as_read (last_of b) ≡ message_of (response_at own p b f w)) (sym e) (sym (carried own f _ (last_of b))))
+again_is own p b f v (Some m) (ShownAgain e) known =
+    same_again own p b f v m (known m refl) (subst (λ (w : Answer). as_read (last_of b) ≡ message_of (response_at own p b f w)) (sym e) (sym (carried own f _ (last_of b))))
+again_is own p b f v (Some m) (NoneAgain nack e) known = subst (λ (w : Answer). is_another (Some m) (response_at own p b f w) ≡ false) (sym e) refl
 
 again_at : (own : Uid) (p : Profile) (b : outbox.Account) (f : Frame) (v : Answer) (last : Option Message) (again : Bool) → asks_again f ≡ again → Gives f v → IsLast last b → (again && is_another last (response_at own p b f v)) ≡ false
 again_at own p b f v last true e gives known = again_is own p b f v last (gives.again e) known

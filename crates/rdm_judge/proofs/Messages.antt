@@ -20,7 +20,7 @@ use Rattle.rdm_params.specs.Jobs.Work.{worker_at}
 use Rattle.rdm_outbox.specs.Account as outbox
 use Rattle.rdm_outbox.specs.declared.job.Job.{Job}
 use Rattle.rdm_outbox.specs.Jobs.{after_arrive, has_room, next_job, waiting_of}
-use Rattle.rdm_outbox.specs.Messages.{after_dispense, after_next, dispensed, is_last, last_of, last_or, next_of}
+use Rattle.rdm_outbox.specs.Messages.{after_dispense, after_next, after_status, dispensed, is_last, last_of, last_or, next_of, status_dispensed}
 use Rattle.rdm_outbox.specs.Statuses.{can_note, status_message, status_now}
 use Rattle.rdm_responder.specs.History.{Event, Heard, Arrived, Changed, Placed, Noted, Restored}
 use Rattle.rdm_responder.specs.Rules.{Account, account_after, after_entry, after_message, after_outcome, outbox_after}
@@ -116,6 +116,14 @@ dispensed_at b ask false e = rw e (next_is_last b ask (nat_lt b.given (length b.
 -- what QUEUED_MESSAGE gave is the last message
 pub dispensed_is_last : (b : outbox.Account) (ask : Ask) → last_of (after_dispense b ask) ≡ dispensed b ask
 dispensed_is_last b ask = dispensed_at b ask (is_last ask) refl
+
+status_at : (b : outbox.Account) (ask : Ask) (again : Bool) → is_last ask ≡ again → last_of (after_status b ask) ≡ status_dispensed b ask
+status_at b ask true e = rw e refl
+status_at b ask false e = rw e (last_or_push (status_message []) (status_now b ask) b.answers)
+
+-- so is what STATUS_MESSAGES gave
+pub status_is_last : (b : outbox.Account) (ask : Ask) → last_of (after_status b ask) ≡ status_dispensed b ask
+status_is_last b ask = status_at b ask (is_last ask) refl
 
 -- ---- how many wait
 

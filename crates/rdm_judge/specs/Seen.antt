@@ -28,7 +28,8 @@ pub record Exchange : Type 0 where
 
 -- ---- the captures of a fixture
 
--- What a capture doesn't show: jobs end, somebody turns the menu, the firmware places, notes and restores. Requests are all in the capture.
+-- What a capture doesn't show: jobs end, somebody turns the menu, the firmware places, notes and restores. All bytes that the fixture may
+-- have heard are in the capture. It isn't switched off meanwhile, since a history begins when it is switched on.
 abbrev pub is_unseen : Event → Bool
 is_unseen (Heard bytes) = false
 is_unseen (Arrived report) = true
@@ -82,24 +83,23 @@ muted_after muted f (Some r) = f.pid == 0x0002
 abbrev pub polls : Frame → Bool
 polls f = (f.class == 0x20) && (f.pid == 0x0020)
 
--- one that asks the root for the last message again. Table A-4.
+-- a GET of QUEUED_MESSAGE or STATUS_MESSAGES that asks the root for the last message again. Table A-4.
 abbrev pub asks_again : Frame → Bool
-asks_again f = polls f && (f.sub == 0) && bytes_eq f.body (0x01 ∷ [])
+asks_again f = fetches f && (f.sub == 0) && bytes_eq f.body (0x01 ∷ [])
 
 -- the message that a response carries
 abbrev pub message_of : Frame → Message
 message_of r = record { class = r.class; pid = r.pid; sub = r.sub; body = r.body }
 
--- the last message, where a response to QUEUED_MESSAGE that is an ACK (0) carries it
+-- the last message, where a response that is an ACK (0) carries it
 abbrev pub told : Option Message → Option Frame → Option Message
 told last None = last
 told last (Some r) = if r.port == 0 then Some (message_of r) else last
 
--- The last message is known from an ACK of QUEUED_MESSAGE on, until the fixture may have given another.
+-- The last message is known from an ACK of QUEUED_MESSAGE or STATUS_MESSAGES on, until the fixture may have given another. Sections 10.3.1
+-- and 10.3.2.
 abbrev pub last_after : Option Message → Frame → Option Frame → Option Message
-last_after last f response =
-    if polls f then told (if asks_again f then last else None) response
-    else if fetches f then None else last
+last_after last f response = if fetches f then told (if asks_again f then last else None) response else last
 
 -- How many messages wait at least, once the fixture may have heard a request: QUEUED_MESSAGE takes one of them, unless it asks for the
 -- last message again.

@@ -45,8 +45,8 @@ impl Seen {
     /// What is said of the next reply of a capture, or of that there is none, and then what is known is also what it says.
     ///
     /// The verdict is that of [`judge`], but a reply is also `Wrong` if no fixture gives it that has given the replies before it:
-    /// `no_capture_is_judged_wrong`. All requests must be handed in that the fixture may have received since it was switched on, from the
-    /// first request of the capture on; its twin receives them, too.
+    /// `no_capture_is_judged_wrong`. From the first request of the capture on, each that the fixture may have received is handed in, and the
+    /// twin receives it, too. The fixture must stay switched on.
     pub fn judge(&mut self, twin: &mut Responder, request: &[u8], reply: Option<&[u8]>) -> Judged
         ensures verdict { (h : History) → StandsFor twin.old h → result.verdict ≡ judged_with self.old h (record { request = request.now; reply = option_map (λ bytes. bytes.now) reply.entry }) }
         ensures given { (h : History) → StandsFor twin.old h → result.given ≡ reply_of h request.now }
@@ -167,7 +167,7 @@ impl Seen {
     fn take_last(&mut self, request: &FrameView<'_>, response: &FrameView<'_>)
         ensures { self.new ≡ record self.old { last = last_after self.old.last request.now (Some response.now) } }
     {
-        if polls(request) && response.port == ACK {
+        if fetches(request) && response.port == ACK {
             self.last = Some(message_of(response));
         } else {
             self.forget_last(request);
@@ -237,11 +237,11 @@ fn polls(request: &FrameView<'_>) -> bool
     request.class == GET_COMMAND && request.pid == QUEUED_MESSAGE
 }
 
-/// Whether it asks the root for the last message again.
+/// Whether a request asks the root for the last message again (E1.20 table A-4).
 fn asks_again(request: &FrameView<'_>) -> bool
     ensures { result ≡ asks_again request.now }
 {
-    polls(request) && request.sub == ROOT_DEVICE && request.body == [GET_LAST_MESSAGE].as_slice()
+    fetches(request) && request.sub == ROOT_DEVICE && request.body == [GET_LAST_MESSAGE].as_slice()
 }
 
 /// How many messages wait at least, once the fixture may have received a request.

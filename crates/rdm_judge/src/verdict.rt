@@ -56,7 +56,7 @@ pub enum Rule {
     /// A device that has answered DISC_MUTE, and has received no DISC_UN_MUTE since, doesn't answer DISC_UNIQUE_BRANCH (section 7.6).
     #[error("the device is muted")]
     Muted,
-    /// QUEUED_MESSAGE that asks for the last message gets the message again that QUEUED_MESSAGE got before (section 10.3.1).
+    /// QUEUED_MESSAGE and STATUS_MESSAGES that ask for the last message get the message again that one of them got before (section 10.3.1).
     #[error("not the last message again")]
     LastMessage,
     /// The message count falls by one at most with each QUEUED_MESSAGE, and by nothing else (section 6.2.8).
