@@ -1,5 +1,6 @@
 #!/usr/bin/env python3
-"""A fixture that makes one known mistake, behind an interface that speaks the protocol of the ENTTEC DMX USB Pro on standard input and output.
+"""A fixture that makes one known mistake, behind an interface that speaks the protocol of the ENTTEC DMX USB Pro on standard input and
+output.
 
     examples/wrong/fixture.py MISTAKE COMMAND..
     examples/wrong/fixture.py

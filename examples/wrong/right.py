@@ -1,4 +1,4 @@
-"""A right fixture, and the frames that it hears and sends (docs/WIDGET.md has the messages of the interface, E1.20 section 6.2 the slots)."""
+"""A right fixture, and the frames that it hears and sends. docs/WIDGET.md has the messages of the interface, E1.20 section 6.2 the slots."""
 import os
 import subprocess
 from dataclasses import dataclass, replace

@@ -1,5 +1,5 @@
-"""Mistakes in refusals, in values, and of sub-devices. Each class is one: its comment says which rule it breaks, and `fixture.py` has its name
-with underscores."""
+"""Mistakes in refusals, in values, and of sub-devices. Each class is one: its comment says which rule it breaks, and `fixture.py` has its
+name with underscores."""
 from right import ACK, ALL_SUBS, DATA_OUT_OF_RANGE, GET, SET, SUB_DEVICE_OUT_OF_RANGE, UNKNOWN_PID, UNSUPPORTED_COMMAND_CLASS
 from right import Fixture, is_refused, is_reply, refusal, response
 

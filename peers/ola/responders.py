@@ -26,6 +26,9 @@ TABLES = HERE / "responders"
 # What each device is asked to see whether it keeps the reply rules, and which rules it breaks.
 PROBE, JUDGED = HERE / "probe.script", TABLES / "judged.txt"
 WRONG = re.compile(r"^([0-9]+): WRONG: (.*)$", re.MULTILINE)
+# The scripts with which each device is tested, and of which of them expectations fail. Two are for a device that is alone on its line.
+SUITE, TESTED, ALONE = TOP / "suite", TABLES / "tested.txt", ("branch.script", "mute.script")
+RESULT = re.compile(r"^\S*?(\w+\.script): ([0-9]+) passed, ([0-9]+) failed$", re.MULTILINE)
 # The parameters that each device has, whether or not it lists them (E1.20 table A-3).
 REQUIRED = ("0050", "0060", "00C0", "1000")
 # Those that `collect` alone asks for.
@@ -99,6 +102,7 @@ class Console:
 
     def __init__(self, program, port, trace):
         self.command = [program, "line", "--port", str(port), "--trace", str(trace)]
+        self.port = port
         self.trace = trace
         self.asked = 0
         self.wrong = 0
@@ -164,7 +168,12 @@ def served(program, room):
 def set_waiting(port):
     """Sets the port so that a read returns after a tenth of a second if no byte comes."""
     file = os.open(port, os.O_RDWR | os.O_NOCTTY)
-    settings = termios.tcgetattr(file)
+    # socat makes the port before it sets it, and would set this back.
+    end = time.monotonic() + SECONDS_TO_START
+    while (settings := termios.tcgetattr(file))[3] & (termios.ICANON | termios.ECHO):
+        if time.monotonic() > end:
+            raise Fault("socat didn't set its terminal")
+        time.sleep(0.05)
     settings[6][termios.VMIN], settings[6][termios.VTIME] = 0, 1
     termios.tcsetattr(file, termios.TCSANOW, settings)
     # It isn't closed: the terminal of a line that nobody has open may be set anew.
@@ -244,10 +253,10 @@ def check_described(console, devices, room):
             console.wrong += other.wrong
 
 
-def judged():
-    """What `check` finds wrong in the replies of each device, as the file says."""
+def told_in(file):
+    """What a file has of each device."""
     found = {}
-    for line in JUDGED.read_text(encoding="utf-8").splitlines():
+    for line in file.read_text(encoding="utf-8").splitlines():
         if DEVICE.match(line):
             found[line] = []
         elif line.startswith("    "):
@@ -257,9 +266,11 @@ def judged():
 
 def check_judged(console, devices, room):
     """What `check` finds wrong in the replies of each device to the probe, beside the file that `describe` prints of it."""
-    wanted = judged()
+    wanted = told_in(JUDGED)
     for number, device in enumerate(devices):
         _, printed, _, _ = console.run("play", str(PROBE), "--uid", device.uid)
+        # A slow command of the probe may have left its result in the queue.
+        console.run("collect", device.uid)
         trace = room / f"probed{number}.trace"
         trace.write_text(printed, encoding="utf-8")
         file = room / f"described{number}.toml"
@@ -267,6 +278,21 @@ def check_judged(console, devices, room):
                              stderr=subprocess.STDOUT, text=True, timeout=60, check=False)
         console.expect(f"what check finds wrong in {device.uid}", [f"{at}: {rule}" for at, rule in WRONG.findall(ran.stdout)],
                        wanted.get(device.uid))
+
+
+def check_tested(console, devices):
+    """Which expectations of the scripts of suite/ fail on each device."""
+    scripts = [str(script) for script in sorted(SUITE.glob("*.script")) if script.name not in ALONE]
+    wanted, passed, failed = told_in(TESTED), 0, 0
+    for device in devices:
+        ran = subprocess.run([PROGRAM, "test", device.uid, "--port", str(console.port), *scripts], stdin=subprocess.DEVNULL,
+                             stdout=subprocess.PIPE, stderr=subprocess.STDOUT, text=True, timeout=60, check=False)
+        results = RESULT.findall(ran.stdout)
+        passed += sum(int(right) for _, right, _ in results)
+        failed += sum(int(wrong) for _, _, wrong in results)
+        console.expect(f"which expectations fail on {device.uid}", [f"{name}: {wrong}" for name, _, wrong in results if wrong != "0"],
+                       wanted.get(device.uid))
+    print(f"ola-responders: {len(devices)} tested with suite/: {passed} expectations passed, {failed} failed", flush=True)
 
 
 def check_watched(console, devices):
@@ -312,6 +338,7 @@ def check_more_of_olas(console, devices, room):
     Survey(console, devices).check()
     check_slow(console, next(device.uid for device in devices if "Ack Timer" in device.found))
     check_watched(console, devices)
+    check_tested(console, devices)
 
 
 def check_more_of_ours(console, devices, _room):
