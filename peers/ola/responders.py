@@ -38,6 +38,7 @@ ANSWER = re.compile(r"^\S+ answers \S+: (.+?), (GET|SET) response ")
 RIG = ("--fixture", TOP / "examples/par_can.toml", "--fixture", TOP / "examples/dimmer_pack.toml",
        "--fixture", TOP / "examples/moving_head.toml")
 SECONDS_TO_START = 8
+SECONDS_OF_JOB = 1
 SECONDS_TO_WATCH = 4
 MOST_SECONDS = 300
 # Of the fields of DEVICE_INFO the first say what kind of device it is, up to the software version ID; and which field counts personalities.
@@ -269,8 +270,6 @@ def check_judged(console, devices, room):
     wanted = told_in(JUDGED)
     for number, device in enumerate(devices):
         _, printed, _, _ = console.run("play", str(PROBE), "--uid", device.uid)
-        # A slow command of the probe may have left its result in the queue.
-        console.run("collect", device.uid)
         trace = room / f"probed{number}.trace"
         trace.write_text(printed, encoding="utf-8")
         file = room / f"described{number}.toml"
@@ -278,6 +277,9 @@ def check_judged(console, devices, room):
                              stderr=subprocess.STDOUT, text=True, timeout=60, check=False)
         console.expect(f"what check finds wrong in {device.uid}", [f"{at}: {rule}" for at, rule in WRONG.findall(ran.stdout)],
                        wanted.get(device.uid))
+    # The probes broadcast. That is a slow command of the ack-timer responder, with a result in its queue.
+    time.sleep(SECONDS_OF_JOB)
+    console.run("collect", ",".join(device.uid for device in devices))
 
 
 def check_tested(console, devices):
