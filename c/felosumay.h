@@ -388,9 +388,8 @@ felosumay_result felosumay_responder_fits(uint64_t address, uint64_t bytes, uint
     (FELOSUMAY_ROUNDED(5856) + FELOSUMAY_ROUNDED(56 * (uint64_t)(sub_devices)) + 2 * FELOSUMAY_ROUNDED(12 * (uint64_t)(queue_size)) + \
      FELOSUMAY_ROUNDED(248 * (uint64_t)(queue_size)) + FELOSUMAY_ROUNDED(9 * (uint64_t)(entries)))
 
-/* Takes received bytes. If there is a reply, it is at the front of `reply`; the answer to discovery is a reply like any other,
- * and has no break before it. The bytes after the reply are meaningless. ABSENT: `replied`, `started` and
- * `changed` are 0 then. */
+/* Takes received bytes. If there is a reply, it is at the front of `reply`; the answer to DISC_UNIQUE_BRANCH is a reply like any other, and
+ * has no break before it. The bytes after the reply are meaningless. ABSENT: `replied`, `started` and `changed` are 0 then. */
 static inline felosumay_result felosumay_responder_step(felosumay_responder *responder, const uint8_t *bytes, uint64_t length,
                                                         uint8_t reply[FELOSUMAY_FRAME_BYTES], felosumay_stepped *stepped);
 
@@ -525,8 +524,8 @@ enum {
  * A packet is reported with its last byte. It is exactly what came since the break: CC, 01, a message length of at least 24, and as many
  * bytes as that says, with the 2 of the checksum (E1.20 sections 6.2.1 to 6.2.3 and 6.2.11). Pass it to `felosumay_responder_step`, which
  * tests the rest: a packet with a wrong checksum is reported, too, but not answered. The level of each slot after a break and 00 is
- * reported at once, and not kept. Nothing else is reported: not other START codes; not the answers to discovery, which have no break before
- * them; not bytes after the end of a packet or after slot 512; and after an error nothing until the next break. */
+ * reported at once, and not kept. Nothing else is reported: not other START codes; not the answer to DISC_UNIQUE_BRANCH, which has no break
+ * before it; not bytes after the end of a packet or after slot 512; and after an error nothing until the next break. */
 void felosumay_receiver_break(felosumay_receiver *receiver);
 void felosumay_receiver_error(felosumay_receiver *receiver);
 uint8_t felosumay_receiver_byte(felosumay_receiver *receiver, uint8_t byte, uint16_t *number);
@@ -545,7 +544,7 @@ enum {
 };
 
 /* The first test that the bytes fail, or IS_FRAME: for the counts of COMMS_STATUS. Responders and collectors ignore what isn't a frame. The
- * answer to discovery isn't a frame. */
+ * answer to DISC_UNIQUE_BRANCH isn't a frame. */
 static inline uint8_t felosumay_frame_fault(const uint8_t *bytes, uint64_t length);
 
 /* ---- the collector: it fetches the messages of one device, however that answers polls, and sends commands in between */
@@ -600,7 +599,7 @@ enum {
  * the table, in which ACK_TIMER and NACK_REASON have two bytes of data. Nothing is written then. */
 static inline felosumay_result felosumay_reply_read(const uint8_t *bytes, uint64_t length, felosumay_reply *reply);
 
-/* What a collector takes bytes for. */
+/* How a collector classifies bytes. */
 enum {
     FELOSUMAY_IGNORED = 0,      /* nothing that it waits for */
     FELOSUMAY_MESSAGE = 1,      /* a message, which answers the open poll */
@@ -632,8 +631,8 @@ static inline felosumay_result felosumay_collector_ask(felosumay_collector *coll
 felosumay_result felosumay_collector_poll(felosumay_collector *collector, uint8_t request[FELOSUMAY_FRAME_BYTES],
                                           uint64_t *count);
 
-/* Hears bytes, and says what they are taken for: any response in the open transaction answers it. Discovery's answers aren't frames,
- * and are ignored. ABSENT. */
+/* Hears bytes, and says how it classifies them: any response in the open transaction answers it. The answer to DISC_UNIQUE_BRANCH isn't a
+ * frame, and is ignored. ABSENT. */
 static inline felosumay_result felosumay_collector_hear(felosumay_collector *collector, const uint8_t *bytes, uint64_t length,
                                                         felosumay_heard *heard);
 
@@ -683,7 +682,7 @@ static inline felosumay_result felosumay_search_hear(felosumay_search *search, c
  * transactions for each of the others and 1 more are enough. ABSENT. */
 felosumay_result felosumay_search_resume(felosumay_search *search, uint32_t limit);
 
-/* How many fixtures were found so far. ABSENT. */
+/* How many fixtures have been found. ABSENT. */
 felosumay_result felosumay_search_count(const felosumay_search *search, uint64_t *count);
 
 /* The fixture with this index, from 0, in the order in which they were found. ABSENT; NO_MORE if no more were found. */

@@ -45,8 +45,8 @@ static inline felosumay_result felosumay_images_look_at_both(const felosumay_are
     return result == FELOSUMAY_DONE ? felosumay_images_look(areas, 1, key, buffer, size, &images[1]) : result;
 }
 
-/* Erases both areas, so that nothing is loaded. Flash that may hold anything is erased so once, before its first save: a save that is
- * interrupted keeps its promise then. FLASH_FAILED: call it again. */
+/* Erases both areas, so that nothing is loaded. Erase flash that may hold anything once in this way, before its first save: then a save
+ * that is interrupted keeps its promise. FLASH_FAILED: call it again. */
 static inline felosumay_result felosumay_images_format(const felosumay_areas *areas) {
     return areas->erase(areas->context, 0) && areas->erase(areas->context, 1) ? FELOSUMAY_DONE : FELOSUMAY_FLASH_FAILED;
 }

@@ -34,7 +34,7 @@ extern "C" {
 felosumay_result felosumay_responder_new_in(void *memory, uint64_t bytes, felosumay_responder *responder, uint16_t maker, uint32_t device,
                                             const felosumay_profile *profile, uint16_t queue_size, uint16_t entries, uint32_t first_job);
 
-/* What stands at the front of such memory: 32 bytes on each target, so addresses are 64-bit numbers here. */
+/* What is at the front of such memory: 32 bytes on each target, so addresses are 64-bit numbers here. */
 typedef struct felosumay_arena {
     struct felosumay_arena *next; /* the arena that came into use before it */
     uint64_t free;                /* where the next block begins */

@@ -43,7 +43,7 @@ static inline felosumay_result felosumay_place_number(felosumay_responder *respo
 }
 
 /* Read a parameter of one, two or four bytes. As `felosumay_responder_get`, and then BAD_LENGTH if the value has another length. If it
- * isn't DONE, `value` stays. */
+ * isn't DONE, `value` is unchanged. */
 static inline felosumay_result felosumay_get_u8(const felosumay_responder *responder, uint16_t sub, uint16_t pid, uint8_t *value) {
     uint32_t number = 0;
     const felosumay_result result = felosumay_get_number(responder, sub, pid, 1, &number);
