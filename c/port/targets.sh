@@ -19,7 +19,7 @@ use_target() {
     read -ra firmware <<<"$firmware"
 }
 
-# Links a program for the processor, as a firmware with input and output by semihosting: link OUTPUT FILE..
+# Links a program for the processor, as a firmware with input and output by semihosting, on RISC-V by a serial port: link OUTPUT FILE..
 link() {
     case $1 in
     cortex-*) link_for_arm "${@:2}" ;;
@@ -38,22 +38,22 @@ link_for_arm() {
 link_for_riscv() {
     "${firmware[@]}" --crt0=semihost --oslib=semihost -Wl,--gc-sections \
         -Wl,--defsym=__flash=0x80000000,--defsym=__flash_size=0x400000,--defsym=__ram=0x80400000,--defsym=__ram_size=0x400000 \
-        -Wl,--defsym=__stack_size=0x8000 "${@:2}" -o "$1"
+        -Wl,--defsym=__stack_size=0x8000 "$port/serial.c" "${@:2}" -o "$1"
 }
 
-# Runs a program on the processor; what is on standard input is the program's. Lines end by a line feed alone. qemu has the output of a
-# RISC-V program on its standard error.
+# Runs a program on the processor; what is on standard input is the program's. Lines end by a line feed alone. A serial port has no end, so
+# the byte 04 ends the input of a RISC-V program; what sends it has none of the program's streams open, which end with the program.
 run_program() {
     case $1 in
-    cortex-*) run_on qemu-system-arm "$2" ;;
-    rv32*) run_on qemu-system-riscv32 "$2" -bios none ;;
+    cortex-*) run_on qemu-system-arm "$2" -serial none ;;
+    rv32*) run_on qemu-system-riscv32 "$2" -bios none -serial stdio < <(exec 2>/dev/null; cat; printf '\004') ;;
     aarch64) qemu-aarch64 "$2" ;;
     *) "$2" ;;
     esac
 }
 
 run_on() {
-    timeout 600 "$1" -M "$machine" "${@:3}" -nographic -monitor none -serial none -semihosting-config enable=on,target=native \
-        -kernel "$2" 2>&1 | sed -u 's/\r$//'
+    timeout 600 "$1" -M "$machine" "${@:3}" -nographic -monitor none -semihosting-config enable=on,target=native -kernel "$2" 2>&1 |
+        sed -u 's/\r$//'
     return "${PIPESTATUS[0]}"
 }
