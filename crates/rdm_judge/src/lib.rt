@@ -3,6 +3,9 @@
 //!
 //! What isn't known of the fixture, such as which of its jobs have ended, is never held against it: a reply that is judged wrong is one that
 //! no fixture with this UID and profile gives (`no_history_is_judged_wrong`).
+//!
+//! `Seen` judges the replies of a whole capture, and keeps what they say of the fixture: a reply is also wrong if it contradicts those before
+//! it (`no_capture_is_judged_wrong`).
 #![tactic(auto)]
 
 mod asked;

@@ -42,7 +42,7 @@ impl Seen {
         }
     }
 
-    /// What is said of the next reply of a capture, or of that there is none, and then what is known is also what it says.
+    /// Judges the next reply of a capture, or that there is none, and keeps what it says of the fixture.
     ///
     /// The verdict is that of [`judge`], but a reply is also `Wrong` if no fixture gives it that has given the replies before it:
     /// `no_capture_is_judged_wrong`. From the first request of the capture on, each that the fixture may have received is handed in, and the
@@ -62,7 +62,7 @@ impl Seen {
         }
     }
 
-    /// The rule that a reply breaks by what is known, and then takes in what it says.
+    /// Takes in a reply, and returns the rule that it breaks by what was known before it.
     fn take(&mut self, own: Uid, request: &[u8], reply: Option<&[u8]>) -> Option<Rule>
         ensures rule { result ≡ rule_at self.old own (frame_in request.now) (option_map (λ bytes. bytes.now) reply.entry) }
         ensures seen { self.new ≡ after_frame own self.old (frame_in request.now) (option_map (λ bytes. bytes.now) reply.entry) }
@@ -113,7 +113,7 @@ impl Seen {
         }
     }
 
-    /// The rule that a reply to a GET or a SET breaks, and then takes in what it says.
+    /// Takes in the reply to a GET or a SET, and returns the rule that it breaks.
     fn take_command(
         &mut self,
         own: Uid,

@@ -13,7 +13,7 @@ use rdm_host::fault::Fault;
 use rdm_host::fixture::{DEMONSTRATION, FixtureFile, demonstration};
 use rdm_host::host::Host;
 use rdm_host::source::{Source, print, refuse_clashes, without_mark};
-use rdm_judge::{Judged, Seen, Verdict};
+use rdm_judge::{Judged, Rule, Seen, Verdict};
 use rdm_params::{Kind, Outcome};
 use rdm_responder::{Report, Responder};
 use rdm_trace::{JobName, Line, TraceError, lines_of};
@@ -201,10 +201,13 @@ impl Session<'_> {
         self.print_given(rt, judged)
     }
 
-    /// Prints the reply that is due, unless it is the one that came.
+    /// Prints the reply that is due, unless it is the one that came, or one before it says what is due.
     fn print_given<'a, H: Host>(&self, rt: H, judged: &Judged) -> Result<(), Fault<'a>> {
-        if let Verdict::Right = judged.verdict {
-            return Ok(());
+        match judged.verdict {
+            Verdict::Right | Verdict::Wrong(Rule::Muted | Rule::LastMessage | Rule::Count) => {
+                return Ok(());
+            }
+            _ => {}
         }
         print(rt, b"expected:\n")?;
         let given = Line::Reply(judged.given.as_ref().map(|wire| wire.copy()));
