@@ -138,19 +138,24 @@ impl Equipment {
             || pid == Kind::IdentifyDevice.pid();
         is_everywhere
             || (pid == Kind::DmxStartAddress.pid() && self.has_address())
-            || self.lists(|listed| listed == pid)
-            || (pid == PARAMETER_DESCRIPTION && self.lists(|listed| listed >= FIRST_OF_MAKERS))
+            || self.lists(pid)
+            || (pid == PARAMETER_DESCRIPTION && self.lists_own())
     }
 
-    /// Whether one of the PIDs that it lists is of this sort.
-    fn lists<T: Fn(u16) -> bool>(&self, is_one: T) -> bool {
+    /// Whether it lists the parameter with this PID.
+    fn lists(&self, pid: u16) -> bool {
         self.listed
             .as_slice()
             .chunks_exact(2)
-            .any(|word| match word {
-                [high, low] => is_one(u16::from_be_bytes([*high, *low])),
-                _ => false,
-            })
+            .any(|word| pid_in(word) == Some(pid))
+    }
+
+    /// Whether it lists a parameter of the maker's own.
+    fn lists_own(&self) -> bool {
+        self.listed
+            .as_slice()
+            .chunks_exact(2)
+            .any(|word| pid_in(word).unwrap_or(0) >= FIRST_OF_MAKERS)
     }
 
     fn has_address(&self) -> bool {
@@ -190,5 +195,13 @@ fn data_of(alloc: Global, outcome: Outcome) -> Vec<u8> {
     match outcome {
         Outcome::Done(data) => data,
         Outcome::Rejected(_) | Outcome::Failed(_) | Outcome::Lacks(_) => Vec::new(alloc),
+    }
+}
+
+/// The PID that two slots say.
+fn pid_in(word: &[u8]) -> Option<u16> {
+    match word {
+        [high, low] => Some(u16::from_be_bytes([*high, *low])),
+        _ => None,
     }
 }
