@@ -13,7 +13,7 @@ use Rattle.rdm_messages.specs.Protocol.{from_line, timeout, answer_of_line, answ
 use Rattle.rdm_messages.specs.Serving.{answer_with, answers_with}
 use Rattle.rdm_messages.proofs.Pieces.{SameFront, one_message}
 use Rattle.rdm_interface.specs.declared.wanted.Wanted.{Wanted}
-use Rattle.rdm_interface.specs.declared.wanted.Wanted.TheVariants.{Labelled, Branch, Response}
+use Rattle.rdm_interface.specs.declared.wanted.Wanted.TheVariants.{Labelled, Branch, Response, Anything}
 use Rattle.rdm_interface.specs.Answers.{is_branch, wanted_for, wanted_by, label_for, request_message, belongs, has_end, heard_in}
 use Rattle.rdm_interface.specs.Exchanges.{IsNext, IsAsked, IsEnded}
 use Rattle.rdm_interface.specs.Sessions.{EndComes, IsInTime, Exchange, IsSession, requests_of, heard_of, inputs_of, IsReplyTo, AreRepliesTo, RepliesAreHeard, end_read, AnsweredIsInTime}
@@ -41,18 +41,19 @@ next_is_front b m n more rest is own next =
 
 -- ---- what requests wait for
 
--- it can be waited for after a request
+-- it can be waited for after bytes were sent
 abbrev IsAsking : Wanted → Type 0
-IsAsking (Labelled label) = label ≡ 12
+IsAsking (Labelled label) = ⊥
 IsAsking Branch = Unit {0}
 IsAsking (Response request) = Unit {0}
+IsAsking Anything = Unit {0}
 
 asking_frame : (f : Frame) (t : Bool) → IsAsking (cond t Branch (Response f))
 asking_frame f true = tt
 asking_frame f false = tt
 
 asking : (o : Option Frame) → IsAsking (wanted_for o)
-asking None = refl
+asking None = tt
 asking (Some f) = asking_frame f (is_branch f)
 
 small : (bytes : List ℕ) → length bytes ≤ 257 → IsMessage (from_line bytes)
@@ -63,14 +64,16 @@ empty = record { size = omega arith }
 
 -- that nobody answers is always waited for
 silence_belongs : (w : Wanted) → IsAsking w → belongs w timeout ≡ true
-silence_belongs (Labelled label) is = subst (λ n. (12 == n) ≡ true) (sym is) refl
+silence_belongs (Labelled label) is = absurd is
 silence_belongs Branch is = refl
 silence_belongs (Response request) is = refl
+silence_belongs Anything is = refl
 
 silence_ends : (w : Wanted) (stream rest : List ℕ) → EndComes (has_end w (Some timeout)) stream rest → stream ≡ rest
 silence_ends (Labelled label) stream rest end = end
 silence_ends Branch stream rest end = end
 silence_ends (Response request) stream rest end = end
+silence_ends Anything stream rest end = end
 
 -- ---- one request
 
@@ -112,11 +115,11 @@ silent w n stream later behind rest is e next end =
     }
 
 -- bytes came that are no answer to DISC_UNIQUE_BRANCH
-responded : (f : Frame) (bytes : List ℕ) (n : Message) (stream later behind rest : List ℕ) → length bytes ≤ 257 → belongs (Response f) (from_line bytes) ≡ true
-    → stream ≡ bytes_of (from_line bytes ∷ []) ++ later → IsNext (belongs (Response f)) stream (Some n) behind → behind ≡ rest → IsHeardRight (Some bytes) (heard_in (Some n)) later rest
-responded f bytes n stream later behind rest most own e next end =
+responded : (w : Wanted) (bytes : List ℕ) (n : Message) (stream later behind rest : List ℕ) → length bytes ≤ 257 → belongs w (from_line bytes) ≡ true
+    → stream ≡ bytes_of (from_line bytes ∷ []) ++ later → IsNext (belongs w) stream (Some n) behind → behind ≡ rest → IsHeardRight (Some bytes) (heard_in (Some n)) later rest
+responded w bytes n stream later behind rest most own e next end =
     let front : SameFront (from_line bytes) n later behind =
-    came_is (Response f) (from_line bytes) n stream later behind (small bytes most) own (e ∙ one_then (from_line bytes) later) next in
+    came_is w (from_line bytes) n stream later behind (small bytes most) own (e ∙ one_then (from_line bytes) later) next in
     record {
       same = ap (λ x. heard_in (Some x)) (sym front.message) ∙ heard_bytes bytes most;
       left = sym end ∙ sym front.rest;
@@ -145,12 +148,13 @@ IsReplyFor w (Some bytes) = (length bytes ≤ 257) × (belongs w (from_line byte
 one_heard : (w : Wanted) (reply : Option (List ℕ)) (n : Message) (stream later behind rest : List ℕ) → IsAsking w → IsReplyFor w reply
     → stream ≡ bytes_of (written_for w reply) ++ later → IsNext (belongs w) stream (Some n) behind → EndComes (has_end w (Some n)) behind rest
     → IsHeardRight reply (heard_in (Some n)) later rest
-one_heard (Labelled label) None n stream later behind rest is fits e next end = silent (Labelled label) n stream later behind rest is e next end
-one_heard (Labelled label) (Some bytes) n stream later behind rest is fits e next end = absurd (true≢false (sym fits.1 ∙ ap (λ k. 5 == k) is))
+one_heard (Labelled label) reply n stream later behind rest is fits e next end = absurd is
 one_heard Branch None n stream later behind rest is fits e next end = silent Branch n stream later behind rest is e next end
 one_heard Branch (Some bytes) n stream later behind rest is fits e next end = called bytes n stream later behind rest fits.0 fits.1 e next end
 one_heard (Response f) None n stream later behind rest is fits e next end = silent (Response f) n stream later behind rest is e next end
-one_heard (Response f) (Some bytes) n stream later behind rest is fits e next end = responded f bytes n stream later behind rest fits.0 fits.1 e next end
+one_heard (Response f) (Some bytes) n stream later behind rest is fits e next end = responded (Response f) bytes n stream later behind rest fits.0 fits.1 e next end
+one_heard Anything None n stream later behind rest is fits e next end = silent Anything n stream later behind rest is e next end
+one_heard Anything (Some bytes) n stream later behind rest is fits e next end = responded Anything bytes n stream later behind rest fits.0 fits.1 e next end
 
 reply_for : (request : List ℕ) (reply : Option (List ℕ)) → IsReplyTo request reply → IsReplyFor (wanted_by request) reply
 reply_for request None is = tt

@@ -9,7 +9,7 @@ use Rattle.rdm_messages.specs.Ends.{End, end_at}
 use Rattle.rdm_messages.specs.Framing.{Message, IsUnfinished, message_bytes}
 use Rattle.rdm_messages.proofs.Frames.{none_of}
 use Rattle.rdm_interface.specs.declared.wanted.Wanted.{Wanted}
-use Rattle.rdm_interface.specs.declared.wanted.Wanted.TheVariants.{Labelled, Branch, Response}
+use Rattle.rdm_interface.specs.declared.wanted.Wanted.TheVariants.{Labelled, Branch, Response, Anything}
 use Rattle.rdm_interface.specs.Answers.{wanted_by, label_for, belongs, has_end, heard_in, request_message}
 use Rattle.rdm_interface.specs.Exchanges.{IsNext, IsReadOn, IsOver, IsAwaited, IsAsked, IsEnded, IsExchanged, IsCutOff, NonePassedOver, HasFailed}
 use Rattle.rdm_interface.proofs.Nexts.{next_none, next_then, next_more}
@@ -146,6 +146,7 @@ no_end : {C : Type 0} (tells : C → ℕ → C → Type 0) (limit : ℕ) (at : E
 no_end tells limit at (Labelled label) = refl
 no_end tells limit at Branch = refl
 no_end tells limit at (Response request) = refl
+no_end tells limit at Anything = refl
 
 -- a request that nobody answered
 pub exchanged_none : {C : Type 0} (tells : C → ℕ → C → Type 0) (limit : ℕ) (before after : End C) (request : List ℕ) (w : Wanted) (label : ℕ)
@@ -165,6 +166,7 @@ pub end_of_branch : (w : Wanted) (m : Message) → has_end w (Some m) ≡ true �
 end_of_branch (Labelled label) m e seven = true≢false (sym e)
 end_of_branch Branch m e seven = absurd (omega (arith, seven))
 end_of_branch (Response request) m e seven = true≢false (sym e)
+end_of_branch Anything m e seven = true≢false (sym e)
 
 -- ---- what fails
 

@@ -3,12 +3,13 @@ use Rattle.std.specs.Prelude.{ℕ, ◌+◌, Bool, false, not, is_some, ◌==◌,
 use Rattle.std.specs.Int.{w16, w32, from_le_bytes}
 use Rattle.std.specs.Option.{option_map_or}
 use Rattle.rdm_frame.specs.declared.frame.Frame.{Frame}
-use Rattle.rdm_frame.specs.Addressing.{same_uid}
+use Rattle.rdm_frame.specs.declared.uid.Uid.{Uid}
+use Rattle.rdm_frame.specs.Addressing.{is_broadcast, same_uid}
 use Rattle.rdm_frame.specs.Reading.{frame_in}
 use Rattle.rdm_messages.specs.Framing.{Message}
 use Rattle.rdm_interface.specs.declared.parameters.Parameters.{Parameters}
 use Rattle.rdm_interface.specs.declared.wanted.Wanted.{Wanted}
-use Rattle.rdm_interface.specs.declared.wanted.Wanted.TheVariants.{Labelled, Branch, Response}
+use Rattle.rdm_interface.specs.declared.wanted.Wanted.TheVariants.{Labelled, Branch, Response, Anything}
 
 -- ---- responses
 
@@ -28,9 +29,13 @@ responds_to request f =
     if is_fetch request then (f.class == 0x21) || (f.class == 0x31)
     else (f.class == request.class + 1) && (f.sub == request.sub) && (f.pid == request.pid)
 
+-- The device may be the one that was asked. No device responds to a broadcast: any that does breaks a rule, and is heard. Section 6.2.4.
+abbrev pub comes_from : Uid → Uid → Bool
+comes_from destination device = same_uid device destination || is_broadcast destination
+
 -- It comes in the transaction of this request, from the device that was asked, to the controller that did. Sections 6.2.4 to 6.2.6.
 abbrev pub is_response : Frame → Frame → Bool
-is_response request f = (f.tn == request.tn) && same_uid f.src request.dst && same_uid f.dst request.src && responds_to request f
+is_response request f = (f.tn == request.tn) && comes_from request.dst f.src && same_uid f.dst request.src && responds_to request f
 
 -- ---- what is asked
 
@@ -42,9 +47,9 @@ is_branch f = (f.class == 0x10) && (f.pid == 0x0001)
 abbrev pub is_mute : Frame → Bool
 is_mute f = (f.class == 0x10) && (f.pid == 0x0002)
 
--- which message is waited for after these bytes: if they are no frame, nothing on the line answers
+-- which message is waited for after these bytes: if they are no frame, no device may answer, and whatever does is heard. Section 6.2.11.
 abbrev pub wanted_for : Option Frame → Wanted
-wanted_for None = Labelled 12
+wanted_for None = Anything
 wanted_for (Some f) = if is_branch f then Branch else Response f
 
 abbrev pub wanted_by : List ℕ → Wanted
@@ -55,6 +60,7 @@ abbrev pub label_for : Wanted → ℕ
 label_for (Labelled label) = 7
 label_for Branch = 11
 label_for (Response request) = 7
+label_for Anything = 7
 
 -- the message by which these bytes are sent on the line
 abbrev pub request_message : List ℕ → Message
@@ -65,6 +71,10 @@ request_message request = record { label = label_for (wanted_by request); body =
 -- bytes came from the line, behind a status byte
 abbrev pub is_from_line : Message → Bool
 is_from_line m = m.label == 5
+
+-- and at least one did
+abbrev pub has_bytes : Message → Bool
+has_bytes m = is_from_line m && nat_lt 1 (length m.body)
 
 abbrev pub line_bytes : Message → List ℕ
 line_bytes m = drop 1 m.body
@@ -79,14 +89,15 @@ has_response request m = is_from_line m && option_map_or (is_response request) (
 
 -- bytes came from the line that are no frame, as an answer is that was altered on its way
 abbrev pub is_altered : Message → Bool
-is_altered m = is_from_line m && nat_lt 1 (length m.body) && not (is_some (frame_in (line_bytes m)))
+is_altered m = has_bytes m && not (is_some (frame_in (line_bytes m)))
 
--- The message is what is waited for: the one with a label; of DISC_UNIQUE_BRANCH any bytes, or that there are none; of another
--- request a response to it, or that there is none, and of DISC_MUTE an altered one, too.
+-- The message is what is waited for: the one with a label; of DISC_UNIQUE_BRANCH, and of what is no request, any bytes, or that there
+-- are none; of another request a response to it, or that there is none, and of DISC_MUTE an altered one, too.
 abbrev pub belongs : Wanted → Message → Bool
 belongs (Labelled label) m = m.label == label
-belongs Branch m = is_timeout m || (is_from_line m && nat_lt 1 (length m.body))
+belongs Branch m = is_timeout m || has_bytes m
 belongs (Response request) m = is_timeout m || has_response request m || (is_mute request && is_altered m)
+belongs Anything m = is_timeout m || has_bytes m
 
 -- What is heard if this message answers: of the bytes from the line as many as a frame has at most.
 abbrev pub heard_in : Option Message → Option (List ℕ)
@@ -99,6 +110,7 @@ has_end (Labelled label) answer = false
 has_end Branch None = false
 has_end Branch (Some m) = is_from_line m
 has_end (Response request) answer = false
+has_end Anything answer = false
 
 -- ---- the interface itself
 

@@ -3,6 +3,7 @@ use Rattle.std.specs.Prelude.{◌≡◌, ℕ, ◌≤◌, Bool, true, false, List
 use Rattle.std.specs.List.{flat_map}
 use Rattle.std.specs.Io.KnownBytes.{Consumes}
 use Rattle.rdm_frame.specs.declared.frame.Frame.{Frame}
+use Rattle.rdm_frame.specs.Addressing.{is_broadcast}
 use Rattle.rdm_messages.specs.Ends.{End}
 use Rattle.rdm_messages.specs.Framing.{Message}
 use Rattle.rdm_messages.specs.Protocol.{from_line}
@@ -90,7 +91,8 @@ AnsweredIsInTime {C} tells =
 -- two requests that one response could answer
 pub record AreAlike (request other : Frame) : Type 0 where
   pub number : request.tn ≡ other.tn
-  pub device : request.dst ≡ other.dst
+  -- unless one of them is a broadcast
+  pub device : is_broadcast request.dst ≡ false → is_broadcast other.dst ≡ false → request.dst ≡ other.dst
   pub controller : request.src ≡ other.src
   pub command : is_fetch request ≡ false → is_fetch other ≡ false
       → (request.class ≡ other.class) × (request.sub ≡ other.sub) × (request.pid ≡ other.pid)

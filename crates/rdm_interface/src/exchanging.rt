@@ -121,6 +121,6 @@ fn has_end(wanted: &Wanted<'_>, answer: &Answer) -> bool
 {
     match wanted {
         Wanted::Branch => answer.is_from_line(),
-        Wanted::Labelled(_) | Wanted::Response(_) => false,
+        Wanted::Labelled(_) | Wanted::Response(_) | Wanted::Anything => false,
     }
 }

@@ -19,8 +19,8 @@ pub fn answered_is_in_time<C: Clock>()
     ensures { AnsweredIsInTime C.tells }
 {}
 
-/// A response answers no two requests that differ in their transaction number, their device or their controller, or, but for
-/// those that fetch a message, in their command class, sub-device or parameter (E1.20 section 6.2).
+/// A response answers no two requests that differ in their transaction number, their device (unless one is a broadcast) or their
+/// controller, or, but for those that fetch a message, in their command class, sub-device or parameter (E1.20 section 6.2).
 pub fn late_answers_are_passed_over()
     ensures { LateAnswersArePassedOver }
 {}

@@ -1,16 +1,16 @@
 //! Which message answers what is asked.
 
-ghost use Rattle.std.specs.Prelude.{◌≡◌, ◌&&◌, nat_lt, false, is_some, length, drop};
+ghost use Rattle.std.specs.Prelude.{◌≡◌, false, is_some, drop};
 ghost use Rattle.std.specs.Option.{option_map_or};
 ghost use Rattle.rdm_frame.specs.Reading.{frame_in};
 ghost use Rattle.rdm_messages.specs.Framing.{message_in};
-ghost use Rattle.rdm_interface.specs.Answers.{asks_again, belongs, has_response, is_altered, is_branch, is_fetch, is_from_line, is_mute, is_response, label_for, line_bytes, responds_to, wanted_by};
+ghost use Rattle.rdm_interface.specs.Answers.{asks_again, belongs, comes_from, has_bytes, has_response, is_altered, is_branch, is_fetch, is_mute, is_response, label_for, line_bytes, responds_to, wanted_by};
 
 use rdm_frame::standard::{
     DISC_MUTE, DISC_UNIQUE_BRANCH, DISCOVERY_COMMAND, GET_COMMAND, GET_COMMAND_RESPONSE,
     GET_LAST_MESSAGE, QUEUED_MESSAGE, SET_COMMAND_RESPONSE, STATUS_MESSAGES,
 };
-use rdm_frame::{FrameView, decode_view};
+use rdm_frame::{FrameView, Uid, decode_view};
 use rdm_messages::MessageView;
 use rdm_messages::labels::{DISCOVERY, FROM_LINE, REQUEST, TIMEOUT};
 
@@ -23,6 +23,8 @@ pub(crate) enum Wanted<'a> {
     Branch,
     /// The response to this request (section 6.2).
     Response(FrameView<'a>),
+    /// Whatever comes, though nothing may (section 6.2.11).
+    Anything,
 }
 
 impl Wanted<'_> {
@@ -32,7 +34,7 @@ impl Wanted<'_> {
     {
         match self {
             Wanted::Branch => DISCOVERY,
-            Wanted::Labelled(_) | Wanted::Response(_) => REQUEST,
+            Wanted::Labelled(_) | Wanted::Response(_) | Wanted::Anything => REQUEST,
         }
     }
 
@@ -42,7 +44,7 @@ impl Wanted<'_> {
     {
         match self {
             Wanted::Labelled(label) => message.label == *label,
-            Wanted::Branch => message.label == TIMEOUT || has_bytes(message),
+            Wanted::Branch | Wanted::Anything => message.label == TIMEOUT || has_bytes(message),
             Wanted::Response(request) => {
                 message.label == TIMEOUT
                     || has_response(request, message)
@@ -64,7 +66,7 @@ pub(crate) fn wanted_by(request: &[u8]) -> Wanted<'_>
                 Wanted::Response(frame)
             }
         }
-        Err(_) => Wanted::Labelled(TIMEOUT),
+        Err(_) => Wanted::Anything,
     }
 }
 
@@ -84,7 +86,7 @@ fn is_mute(request: &FrameView<'_>) -> bool
 
 /// Whether a message says that bytes came from the line.
 fn has_bytes(message: &MessageView<'_>) -> bool
-    ensures { result ≡ (is_from_line (message_in message.now) && nat_lt 1 (length message.now.body.now)) }
+    ensures { result ≡ has_bytes (message_in message.now) }
 {
     message.label == FROM_LINE && message.body.len() > 1
 }
@@ -132,9 +134,16 @@ fn is_response(request: &FrameView<'_>, frame: &FrameView<'_>) -> bool
     ensures { result ≡ is_response request.now frame.now }
 {
     frame.tn == request.tn
-        && frame.src == request.dst
+        && comes_from(request.dst, frame.src)
         && frame.dst == request.src
         && responds_to(request, frame)
+}
+
+/// Whether a device may be the one that was asked. To a broadcast no device responds (section 6.2.4): any that does is heard.
+fn comes_from(destination: Uid, device: Uid) -> bool
+    ensures { result ≡ comes_from destination device }
+{
+    device == destination || destination.is_broadcast()
 }
 
 /// Whether a frame responds to the command of a request: what fetches a message is answered by any (sections 10.3.1 and 10.3.2).

@@ -17,7 +17,7 @@ use Rattle.rdm_responder.specs.Rules.{Account, Response, account_of, answer_to, 
 use Rattle.rdm_line.proofs.Alone.{uid_decides}
 use Rattle.rdm_line.proofs.Unheard.{setup_of}
 use Rattle.rdm_messages.specs.Protocol.{from_line}
-use Rattle.rdm_interface.specs.Answers.{belongs, has_response, is_branch, is_fetch, is_response, responds_to, wanted_for}
+use Rattle.rdm_interface.specs.Answers.{belongs, comes_from, has_response, is_branch, is_fetch, is_response, responds_to, wanted_for}
 use Rattle.rdm_line_ends.specs.Replies.{AreBytes, RepliesAreResponses, BranchesAreAnswered, RepliesBelong}
 use Rattle.rdm_line_ends.proofs.Messages.{AreResponses, messages_are_responses}
 use Rattle.rdm_line_ends.proofs.Rereading.{each_byte, few_data, fits_read, found_fits, read_back, text_read, text_size}
@@ -155,15 +155,16 @@ replied h request reply f found e =
 
 -- ---- the laws of replies
 
-from_and_to : (f g : Frame) → g.tn ≡ f.tn → g.src ≡ f.dst → g.dst ≡ f.src → ((g.tn == f.tn) && same_uid g.src f.dst && same_uid g.dst f.src) ≡ true
+from_and_to : (f g : Frame) → g.tn ≡ f.tn → g.src ≡ f.dst → g.dst ≡ f.src → ((g.tn == f.tn) && comes_from f.dst g.src && same_uid g.dst f.src) ≡ true
 from_and_to f g number device controller =
-    and_from _ _ (and_from _ _ (eq-eqb g.tn f.tn number) ((uid_decides g.src f.dst).1 device)) ((uid_decides g.dst f.src).1 controller)
+    let asked : comes_from f.dst g.src ≡ true = or_left (same_uid g.src f.dst) (is_broadcast f.dst) ((uid_decides g.src f.dst).1 device) in
+    and_from _ _ (and_from _ _ (eq-eqb g.tn f.tn number) asked) ((uid_decides g.dst f.src).1 controller)
 
 pub replies_are_responses : RepliesAreResponses
 replies_are_responses h request reply f found other e =
     elim (replied h request reply f found e) [
       | inl branch ↦ absurd (both_ways (is_branch f) other branch.0)
-      | inr is ↦ (is.1.frame, is.1.text, and_from _ _ (from_and_to f is.1.frame is.1.number is.1.device is.1.controller) is.1.fits.responds)
+      | inr is ↦ (is.1.frame, is.1.text, is.1.device, and_from _ _ (from_and_to f is.1.frame is.1.number is.1.device is.1.controller) is.1.fits.responds)
     ]
 
 pub branches_are_answered : BranchesAreAnswered
@@ -199,7 +200,7 @@ read_response : (f g : Frame) → IsFrame f → g.tn ≡ f.tn → g.src ≡ f.ds
 read_response f g fit number device controller fits =
     let dst : IsUid g.dst = subst IsUid (sym controller) fit.src in
     let src : IsUid g.src = subst IsUid (sym device) fit.dst in
-    let from : ((g.tn == f.tn) && same_uid g.src f.dst && same_uid g.dst f.src) ≡ true = from_and_to f g number device controller in
+    let from : ((g.tn == f.tn) && comes_from f.dst g.src && same_uid g.dst f.src) ≡ true = from_and_to f g number device controller in
     elim (cases_Bool (is_fetch f)) [
       | inl fetch ↦
           (

@@ -22,12 +22,12 @@ AreBytes bytes = AllByRecursion (λ b. b < 2 ^ 8) bytes
 
 -- ---- of one fixture, after any history
 
--- A reply is the text of a response to its request: of the same parameter, but where the request fetches a message. Sections 6.2,
--- 10.3.1 and 10.3.2.
+-- A reply is the text of a response to its request, from the device that was asked: of the same parameter, but where the request fetches a
+-- message. Sections 6.2, 10.3.1 and 10.3.2.
 abbrev pub RepliesAreResponses : Type 0
 RepliesAreResponses =
     (h : History) (request reply : List ℕ) (f : Frame) → frame_in request ≡ Some f → is_branch f ≡ false
-    → reply_of h request ≡ Some reply → (g : Frame) × (reply ≡ frame_text g) × (is_response f g ≡ true)
+    → reply_of h request ≡ Some reply → (g : Frame) × (reply ≡ frame_text g) × (g.src ≡ f.dst) × (is_response f g ≡ true)
 
 -- The answer to DISC_UNIQUE_BRANCH has no header, and is made of the UID alone. Section 7.5.
 abbrev pub BranchesAreAnswered : Type 0

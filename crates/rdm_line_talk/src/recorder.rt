@@ -135,7 +135,8 @@ fn keep<H: Speaker, F: Write>(log: &mut Log<'_, H, F>, line: Line) -> Result<(),
 }
 
 /// What a reply is taken for, of which an interface says that it answers: a message, if it answers a poll by something else than
-/// the response to QUEUED_MESSAGE itself (E1.20 section 10.3.1). The answer to DISC_UNIQUE_BRANCH is no frame.
+/// the response to QUEUED_MESSAGE itself (E1.20 section 10.3.1). The answer to DISC_UNIQUE_BRANCH is no frame, and to a broadcast there is no
+/// valid one (section 6.2.4).
 fn taken_for(request: &Wire, heard: &Option<Wire>) -> Option<Heard> {
     match heard {
         Some(bytes) => Some(judged(request, bytes)),
@@ -146,9 +147,18 @@ fn taken_for(request: &Wire, heard: &Option<Wire>) -> Option<Heard> {
 /// What a reply that was heard is taken for.
 fn judged(request: &Wire, bytes: &Wire) -> Heard {
     match read_reply(bytes.as_slice()) {
+        Some(_) if is_broadcast(request) => Heard::Ignored,
         Some(reply) if is_poll(request) && reply.pid != Kind::QueuedMessage.pid() => Heard::Message,
         Some(_) => Heard::Reply,
         None => Heard::Ignored,
+    }
+}
+
+/// Whether a request is for several devices.
+fn is_broadcast(request: &Wire) -> bool {
+    match decode_view(request.as_slice()) {
+        Ok(frame) => frame.dst.is_broadcast(),
+        Err(_) => false,
     }
 }
 
