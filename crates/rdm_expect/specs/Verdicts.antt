@@ -1,8 +1,11 @@
 -- Whether an expectation holds by the lines of a trace. A request and what is told of it up to the next one are an exchange.
-use Rattle.std.specs.Prelude.{ℕ, ◌+◌, ◌-◌, Bool, true, false, ◌==◌, nat_le, List, length, find, slice_get, Option, Some, None}
+use Rattle.std.specs.Prelude.{ℕ, ◌+◌, ◌-◌, Bool, true, false, ◌==◌, ◌&&◌, nat_le, List, length, drop, filter, find, slice_get, Option, Some, None}
 use Rattle.std.specs.Option.{option_map, option_map_or, option_and_then}
 use Rattle.std.specs.List.{slice_split}
 use Rattle.std.specs.Str.{bytes_eq}
+use Rattle.rdm_frame.specs.declared.uid.Uid.{Uid}
+use Rattle.rdm_frame.specs.Discovery.{branch_reply}
+use Rattle.rdm_frame.specs.Faults.{reply_heard}
 use Rattle.rdm_collector.specs.Replies.{Said, reply_in}
 use Rattle.rdm_collector.specs.declared.reply.Response.{Response}
 use Rattle.rdm_collector.specs.declared.reply.Response.TheVariants as response
@@ -11,8 +14,9 @@ use Rattle.rdm_collector.specs.declared.transaction.Heard.TheVariants as heard
 use Rattle.rdm_trace.specs.declared.line.Line.{Line}
 use Rattle.rdm_trace.specs.declared.line.Line.TheVariants as line
 use Rattle.rdm_expect.specs.declared.wish.Wish.{Wish}
-use Rattle.rdm_expect.specs.declared.wish.Wish.TheVariants.{Ack, AckTimer, AckOverflow, Nack, Data, Nothing, Reply, Within}
+use Rattle.rdm_expect.specs.declared.wish.Wish.TheVariants.{Ack, AckTimer, AckOverflow, Nack, Data, Length, MessageCount, Parameter, Found, Nothing, Reply, Within}
 use Rattle.rdm_expect.specs.declared.sheet.Expectation.{Expectation}
+use Rattle.rdm_expect.specs.declared.judging.Answer.{Answer}
 use Rattle.rdm_expect.specs.declared.judging.Came.{Came}
 use Rattle.rdm_expect.specs.declared.judging.Came.TheVariants as came
 use Rattle.rdm_expect.specs.declared.judging.Verdict.{Verdict}
@@ -31,6 +35,10 @@ is_reply other = false
 abbrev pub is_heard : Line → Bool
 is_heard (line.Heard what) = true
 is_heard other = false
+
+-- The requests of a trace, each with what goes wrong on the way.
+abbrev pub sends_of : List Line → List Line
+sends_of lines = filter is_send lines
 
 -- What stands before the first request of a trace, and behind each request up to the next one.
 abbrev pub parts_of : List Line → List (List Line)
@@ -56,7 +64,7 @@ heard_in part = heard_told (find is_heard part)
 
 -- a response that belongs to the request
 abbrev pub came_as : Said → Came
-came_as said = came.Response said.response said.body
+came_as said = came.Reply (record { response = said.response; waiting = said.waiting; pid = said.pid; body = said.body })
 
 abbrev pub answer_in : Option (List ℕ) → Came
 answer_in bytes = option_map_or came_as (option_and_then reply_in bytes) came.Other
@@ -70,6 +78,21 @@ came_of (Some heard.Reply) bytes = answer_in bytes
 
 unfoldable pub came_in : List Line → Came
 came_in part = came_of (heard_in part) (answered_in part)
+
+-- ---- who is found
+
+-- the bytes of a reply that the controller hears, with what goes wrong on the way
+abbrev pub heard_of : Option Line → List Line → Option (List ℕ)
+heard_of (Some (line.Send bytes fault)) part = option_and_then (reply_heard fault) (answered_in part)
+heard_of other part = None
+
+-- These bytes are the answer of this device to DISC_UNIQUE_BRANCH, of whose preamble interfaces may lose up to 7. E1.20 section 7.5.
+abbrev pub is_answer_of : Uid → List ℕ → Bool
+is_answer_of uid bytes = nat_le (24 - length bytes) 7 && bytes_eq bytes (drop (24 - length bytes) (branch_reply uid))
+
+-- the controller hears that answer
+abbrev pub is_found : Uid → Option Line → List Line → Bool
+is_found uid sent part = option_map_or (is_answer_of uid) (heard_of sent part) false
 
 -- ---- times
 
@@ -109,23 +132,27 @@ is_nack None (response.Nack reason) = true
 is_nack (Some code) (response.Nack reason) = code == reason
 is_nack wanted other = false
 
--- A response with these data is what is wanted.
-abbrev pub is_met : Wish → Response → List ℕ → Bool
-is_met Ack response body = is_ack response
-is_met AckTimer response body = is_timer response
-is_met AckOverflow response body = is_overflow response
-is_met (Nack reason) response body = is_nack reason response
-is_met (Data wanted) response body = bytes_eq body wanted
-is_met Nothing response body = false
-is_met Reply response body = true
-is_met (Within millis) response body = false
+-- This reply is what is wanted. How long it took, and who is found, it doesn't say.
+abbrev pub is_met : Wish → Answer → Bool
+is_met Ack answer = is_ack answer.response
+is_met AckTimer answer = is_timer answer.response
+is_met AckOverflow answer = is_overflow answer.response
+is_met (Nack reason) answer = is_nack reason answer.response
+is_met (Data wanted) answer = bytes_eq answer.body wanted
+is_met (Length least most) answer = nat_le least (length answer.body) && nat_le (length answer.body) most
+is_met (MessageCount count) answer = answer.waiting == count
+is_met (Parameter pid) answer = answer.pid == pid
+is_met Found answer = false
+is_met Nothing answer = false
+is_met Reply answer = true
+is_met (Within millis) answer = false
 
 abbrev pub holds : Wish → Came → Bool
 holds wish came.NoRequest = false
 holds Nothing came.Nothing = true
 holds wish came.Nothing = false
 holds wish came.Other = false
-holds wish (came.Response response body) = is_met wish response body
+holds wish (came.Reply answer) = is_met wish answer
 holds wish (came.After millis) = false
 
 -- passed, or failed by what came
@@ -136,22 +163,23 @@ verdict_if false came = Failed came
 -- a reply that comes in time. It can't be judged where the trace doesn't tell how long it took.
 abbrev pub in_time : ℕ → Option ℕ → Came → Verdict
 in_time most None came = Skipped
-in_time most (Some millis) (came.Response response body) = verdict_if (nat_le millis most) (came.After millis)
+in_time most (Some millis) (came.Reply answer) = verdict_if (nat_le millis most) (came.After millis)
 in_time most (Some millis) other = Failed other
 
--- whether this is met by what stands before a request and behind it
-abbrev pub judged : Wish → List Line → List Line → Verdict
-judged (Within most) before part = in_time most (passed_in before part) (came_in part)
-judged wish before part = verdict_if (holds wish (came_in part)) (came_in part)
+-- whether this is met by a request, and what stands before it and behind it
+abbrev pub judged : Uid → Wish → List Line → Option Line → List Line → Verdict
+judged uid (Within most) before sent part = in_time most (passed_in before part) (came_in part)
+judged uid Found before sent part = verdict_if (is_found uid sent part) (came_in part)
+judged uid wish before sent part = verdict_if (holds wish (came_in part)) (came_in part)
 
 -- the same, where there is such a request
-abbrev pub judged_at : Wish → Option (List Line) → Option (List Line) → Verdict
-judged_at wish (Some before) (Some part) = judged wish before part
-judged_at wish before part = Failed came.NoRequest
+abbrev pub judged_at : Uid → Wish → Option (List Line) → Option Line → Option (List Line) → Verdict
+judged_at uid wish (Some before) sent (Some part) = judged uid wish before sent part
+judged_at uid wish before sent part = Failed came.NoRequest
 
--- Whether an expectation holds.
-abbrev pub verdict_of : List (List Line) → Expectation → Verdict
-verdict_of parts e = judged_at e.wish (slice_get parts e.request) (slice_get parts (e.request + 1))
+-- Whether an expectation of the device with this UID holds by the requests of a trace and what stands between them.
+abbrev pub verdict_of : Uid → List Line → List (List Line) → Expectation → Verdict
+verdict_of uid sends parts e = judged_at uid e.wish (slice_get parts e.request) (slice_get sends e.request) (slice_get parts (e.request + 1))
 
 -- ---- how many there are of each
 

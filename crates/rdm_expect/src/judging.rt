@@ -1,11 +1,12 @@
 //! Expectations are judged by the lines of a trace.
 
-ghost use Rattle.std.specs.Prelude.{◌≡◌, ◌≤◌, ◌++◌, [], ◌∷◌, map, find, slice_get, length, IfOk, OnOk, option_map};
-ghost use Rattle.rdm_expect.specs.Verdicts.{is_send, is_reply, is_heard, parts_of, bytes_told, heard_told, answered_in, heard_in, answer_in, came_of, came_in, time_told, sent_at, heard_at, passed_in, is_ack, is_timer, is_overflow, is_nack, is_met, holds, verdict_if, in_time, judged, judged_at, verdict_of};
+ghost use Rattle.std.specs.Prelude.{◌≡◌, ◌≤◌, ◌++◌, [], ◌∷◌, map, filter, find, slice_get, length, IfOk, OnOk, option_map};
+ghost use Rattle.rdm_expect.specs.Verdicts.{is_send, is_reply, is_heard, sends_of, parts_of, bytes_told, heard_told, answered_in, heard_in, answer_in, came_of, came_in, time_told, sent_at, heard_at, passed_in, heard_of, is_answer_of, is_found, is_ack, is_timer, is_overflow, is_nack, is_met, holds, verdict_if, in_time, judged, judged_at, verdict_of};
 
 use crate::sheet::Expectation;
 use crate::wish::Wish;
-use rdm_collector::{Body, Heard, Response, read_reply};
+use rdm_collector::{Body, Heard, Response, Uid, Wire, read_reply};
+use rdm_frame::disc_reply;
 use rdm_trace::Line;
 use std::alloc::{AllocError, Global};
 
@@ -18,10 +19,23 @@ pub enum Came {
     Nothing,
     /// It heard something that isn't a reply to the request.
     Other,
-    /// A reply with these data.
-    Response(Response, Body),
+    /// A reply that says this.
+    Reply(Answer),
     /// A reply that took this many milliseconds.
     After(u64),
+}
+
+/// What a reply says.
+#[derive(Drop)]
+pub struct Answer {
+    /// How the request is answered (E1.20 section 6.3).
+    pub response: Response,
+    /// How many messages wait in the device, at most 255 (section 6.2.8).
+    pub waiting: u8,
+    /// The parameter ID (table A-3).
+    pub pid: u16,
+    /// The parameter data, at most 231 bytes.
+    pub body: Body,
 }
 
 /// What comes of an expectation.
@@ -35,18 +49,20 @@ pub enum Verdict {
     Skipped,
 }
 
-/// What comes of each expectation by the lines of the trace of its script.
+/// What comes of each expectation of the device with this UID, by the lines of the trace of its script.
 pub fn judge(
     alloc: Global,
+    uid: Uid,
     expectations: &[Expectation],
     lines: &[Line],
 ) -> Result<Vec<Verdict>, AllocError>
-    ensures { IfOk result (λ verdicts. verdicts.items ≡ map (verdict_of (parts_of lines.now)) expectations.now) }
+    ensures { IfOk result (λ verdicts. verdicts.items ≡ map (verdict_of uid (sends_of lines.now) (parts_of lines.now)) expectations.now) }
 {
+    let sends = sends_of(alloc, lines)?;
     let parts = parts_of(alloc, lines)?;
     let mut verdicts = Vec::new(alloc);
     for expectation in expectations {
-        put(&mut verdicts, verdict_of(&parts, expectation))?;
+        put(&mut verdicts, verdict_of(uid, &sends, &parts, expectation))?;
     }
     Ok(verdicts)
 }
@@ -59,6 +75,13 @@ fn put(verdicts: &mut Vec<Verdict>, verdict: Verdict) -> Result<(), AllocError>
         Ok(()) => Ok(()),
         Err(_) => Err(AllocError),
     }
+}
+
+/// The requests, each with what goes wrong on the way.
+fn sends_of(alloc: Global, lines: &[Line]) -> Result<Vec<&Line>, AllocError>
+    ensures { IfOk result (λ sends. map (λ line. line.now) sends.items ≡ sends_of lines.now) }
+{
+    lines.iter().filter(|line| is_send(line)).collect(alloc)
 }
 
 /// What stands before the first request, and behind each up to the next.
@@ -90,14 +113,25 @@ fn is_heard(line: &Line) -> bool
 }
 
 /// What comes of an expectation.
-fn verdict_of(parts: &[&[Line]], expectation: &Expectation) -> Verdict
-    ensures { result ≡ verdict_of (map (λ part. part.now) parts.now) expectation.now }
+fn verdict_of(uid: Uid, sends: &[&Line], parts: &[&[Line]], expectation: &Expectation) -> Verdict
+    ensures { result ≡ verdict_of uid (map (λ line. line.now) sends.now) (map (λ part. part.now) parts.now) expectation.now }
 {
     let before = part_at(parts, expectation.request);
+    let sent = send_at(sends, expectation.request);
     let part = part_at(parts, expectation.request.saturating_add(1));
     match (before, part) {
-        (Some(before), Some(part)) => judged(&expectation.wish, before, part),
+        (Some(before), Some(part)) => judged(uid, &expectation.wish, before, sent, part),
         _ => Verdict::Failed(Came::NoRequest),
+    }
+}
+
+/// The request at this index.
+fn send_at<'a>(sends: &[&'a Line], index: usize) -> Option<&'a Line>
+    ensures { option_map (λ line. line.now) result ≡ slice_get (map (λ line. line.now) sends.now) index }
+{
+    match sends.get(index) {
+        Some(sent) => Some(*sent),
+        None => None,
     }
 }
 
@@ -111,20 +145,55 @@ fn part_at<'a>(parts: &[&'a [Line]], index: usize) -> Option<&'a [Line]>
     }
 }
 
-/// Whether a wish is met by what stands before a request and behind it.
-fn judged(wish: &Wish, before: &[Line], part: &[Line]) -> Verdict
-    ensures { result ≡ judged wish.now before.now part.now }
+/// Whether a wish is met by a request, and what stands before it and behind it.
+fn judged(uid: Uid, wish: &Wish, before: &[Line], sent: Option<&Line>, part: &[Line]) -> Verdict
+    ensures { result ≡ judged uid wish.now before.now (option_map (λ line. line.now) sent.entry) part.now }
 {
     let came = came_in(part);
     match wish {
         Wish::Within(most) => in_time(*most, passed_in(before, part), came),
-        _ => {
-            if holds(wish, &came) {
-                Verdict::Passed
-            } else {
-                Verdict::Failed(came)
-            }
-        }
+        Wish::Found => verdict_if(is_found(uid, sent, part), came),
+        _ => verdict_if(holds(wish, &came), came),
+    }
+}
+
+/// Passed, or failed by what came.
+fn verdict_if(holds: bool, came: Came) -> Verdict
+    ensures { result ≡ verdict_if holds came }
+{
+    if holds {
+        Verdict::Passed
+    } else {
+        Verdict::Failed(came)
+    }
+}
+
+/// Whether the controller hears the answer of this device to DISC_UNIQUE_BRANCH.
+fn is_found(uid: Uid, sent: Option<&Line>, part: &[Line]) -> bool
+    ensures { result ≡ is_found uid (option_map (λ line. line.now) sent.entry) part.now }
+{
+    match heard_of(sent, part) {
+        Some(bytes) => is_answer_of(uid, bytes.as_slice()),
+        None => false,
+    }
+}
+
+/// Whether bytes are the answer of this device to DISC_UNIQUE_BRANCH, of whose preamble interfaces may lose up to 7 (E1.20 section 7.5).
+fn is_answer_of(uid: Uid, bytes: &[u8]) -> bool
+    ensures { result ≡ is_answer_of uid bytes.now }
+{
+    let answer = disc_reply(uid);
+    let lost = 24usize.saturating_sub(bytes.len());
+    lost <= 7 && bytes == &answer[lost..]
+}
+
+/// The bytes of a reply that the controller hears, with what goes wrong on the way.
+fn heard_of(sent: Option<&Line>, part: &[Line]) -> Option<Wire>
+    ensures { result ≡ heard_of (option_map (λ line. line.now) sent.entry) part.now }
+{
+    match sent {
+        Some(Line::Send { fault, .. }) => fault.reply_heard(answered_in(part)?),
+        _ => None,
     }
 }
 
@@ -165,7 +234,7 @@ fn heard_told(line: Option<&Line>) -> Option<Heard>
 }
 
 /// The bytes that the device answers.
-fn answered_in(part: &[Line]) -> Option<&[u8]>
+fn answered_in(part: &[Line]) -> Option<&Wire>
     ensures { option_map (λ bytes. bytes.now) result ≡ answered_in part.now }
 {
     bytes_told(first_reply(part))
@@ -179,24 +248,29 @@ fn first_reply(part: &[Line]) -> Option<&Line>
 }
 
 /// The bytes that a line tells that the device answers.
-fn bytes_told(line: Option<&Line>) -> Option<&[u8]>
+fn bytes_told(line: Option<&Line>) -> Option<&Wire>
     ensures { option_map (λ bytes. bytes.now) result ≡ bytes_told (option_map (λ line. line.now) line.entry) }
 {
     match line {
-        Some(Line::Reply(Some(bytes))) => Some(bytes.as_slice()),
+        Some(Line::Reply(Some(bytes))) => Some(bytes),
         _ => None,
     }
 }
 
 /// What bytes say that are taken for an answer.
-fn answer_in(bytes: Option<&[u8]>) -> Came
+fn answer_in(bytes: Option<&Wire>) -> Came
     ensures { result ≡ answer_in (option_map (λ bytes. bytes.now) bytes.entry) }
 {
     let Some(bytes) = bytes else {
         return Came::Other;
     };
-    match read_reply(bytes) {
-        Some(reply) => Came::Response(reply.response, copied(reply.body)),
+    match read_reply(bytes.as_slice()) {
+        Some(reply) => Came::Reply(Answer {
+            response: reply.response,
+            waiting: reply.waiting,
+            pid: reply.pid,
+            body: copied(reply.body),
+        }),
         None => Came::Other,
     }
 }
@@ -237,8 +311,8 @@ fn in_time(most: u64, passed: Option<u64>, came: Came) -> Verdict
 {
     match (passed, came) {
         (None, _) => Verdict::Skipped,
-        (Some(millis), Came::Response(_, _)) if millis <= most => Verdict::Passed,
-        (Some(millis), Came::Response(_, _)) => Verdict::Failed(Came::After(millis)),
+        (Some(millis), Came::Reply(_)) if millis <= most => Verdict::Passed,
+        (Some(millis), Came::Reply(_)) => Verdict::Failed(Came::After(millis)),
         (Some(_), came) => Verdict::Failed(came),
     }
 }
@@ -249,23 +323,29 @@ fn holds(wish: &Wish, came: &Came) -> bool
 {
     match came {
         Came::Nothing => matches!(wish, Wish::Nothing),
-        Came::Response(response, data) => is_met(wish, *response, data.as_slice()),
+        Came::Reply(answer) => is_met(wish, answer),
         Came::NoRequest | Came::Other | Came::After(_) => false,
     }
 }
 
-/// Whether a response with these data meets a wish.
-fn is_met(wish: &Wish, response: Response, data: &[u8]) -> bool
-    ensures { result ≡ is_met wish.now response data.now }
+/// Whether a reply meets a wish.
+fn is_met(wish: &Wish, answer: &Answer) -> bool
+    ensures { result ≡ is_met wish.now answer.now }
 {
+    let data = answer.body.as_slice();
     match wish {
-        Wish::Ack => matches!(response, Response::Ack),
-        Wish::AckTimer => matches!(response, Response::AckTimer { .. }),
-        Wish::AckOverflow => matches!(response, Response::AckOverflow),
-        Wish::Nack(reason) => is_nack(*reason, response),
+        Wish::Ack => matches!(answer.response, Response::Ack),
+        Wish::AckTimer => matches!(answer.response, Response::AckTimer { .. }),
+        Wish::AckOverflow => matches!(answer.response, Response::AckOverflow),
+        Wish::Nack(reason) => is_nack(*reason, answer.response),
         Wish::Data(wanted) => data == wanted.as_slice(),
+        Wish::Length { least, most } => {
+            usize::from(*least) <= data.len() && data.len() <= usize::from(*most)
+        }
+        Wish::MessageCount(count) => answer.waiting == *count,
+        Wish::Parameter(pid) => answer.pid == *pid,
         Wish::Reply => true,
-        Wish::Nothing | Wish::Within(_) => false,
+        Wish::Found | Wish::Nothing | Wish::Within(_) => false,
     }
 }
 

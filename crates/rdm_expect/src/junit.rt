@@ -4,6 +4,7 @@ use crate::escape::put_escaped;
 use crate::judging::Verdict;
 use crate::sheet::Expectation;
 use crate::tally::tally_of;
+use crate::telling::Failure;
 use std::alloc::AllocError;
 use std::fmt::Write;
 
@@ -66,10 +67,13 @@ fn put_case(
     write!(markup, "\" name=\"line {line}: expect {wish}\"")?;
     match verdict {
         Verdict::Passed => markup.push_str("/>\n"),
-        Verdict::Failed(came) => write!(
-            markup,
-            ">\n    <failure message=\"expected {wish}, got {came}\"/>\n  </testcase>\n"
-        ),
+        Verdict::Failed(came) => {
+            let failure = Failure { wish, came };
+            write!(
+                markup,
+                ">\n    <failure message=\"{failure}\"/>\n  </testcase>\n"
+            )
+        }
         Verdict::Skipped => markup.push_str(
             ">\n    <skipped message=\"the trace has no times\"/>\n  </testcase>\n",
         ),

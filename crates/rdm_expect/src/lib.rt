@@ -18,10 +18,10 @@ mod wish;
 mod words;
 
 pub use escape::put_escaped;
-pub use judging::{Came, Verdict, judge};
+pub use judging::{Answer, Came, Verdict, judge};
 pub use junit::{put_junit, put_suite, put_suites};
-pub use laws::text_without_expectations_is_its_script;
+pub use laws::{found_is_the_answer_to_discovery, text_without_expectations_is_its_script};
 pub use sheet::{Expectation, MOST_BYTES, Sheet, SheetError, parse};
 pub use tally::{Tally, tally_of};
-pub use telling::put_report;
+pub use telling::{Failure, put_report};
 pub use wish::{Flaw, Wish};

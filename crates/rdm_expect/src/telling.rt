@@ -1,11 +1,12 @@
 //! What is told of expectations, in words.
 
-use crate::judging::{Came, Verdict};
+use crate::judging::{Answer, Came, Verdict};
 use crate::reasons::REASONS;
 use crate::sheet::Expectation;
 use crate::tally::{Tally, tally_of};
 use crate::wish::Wish;
 use rdm_collector::Response;
+use rdm_table::parameter_name;
 use std::alloc::AllocError;
 use std::fmt;
 use std::fmt::Write;
@@ -19,6 +20,11 @@ impl fmt::Display for Wish {
             Wish::Nack(None) => f.write_str("NACK"),
             Wish::Nack(Some(code)) => write_nack(f, *code),
             Wish::Data(data) => write_data(f, data.as_slice()),
+            Wish::Length { least, most } if least == most => write!(f, "LENGTH {least}"),
+            Wish::Length { least, most } => write!(f, "LENGTH {least} to {most}"),
+            Wish::MessageCount(count) => write!(f, "MESSAGE_COUNT {count}"),
+            Wish::Parameter(pid) => write_parameter(f, *pid),
+            Wish::Found => f.write_str("found"),
             Wish::Nothing => f.write_str("nothing"),
             Wish::Reply => f.write_str("reply"),
             Wish::Within(millis) => write!(f, "within {millis} ms"),
@@ -26,15 +32,51 @@ impl fmt::Display for Wish {
     }
 }
 
-impl fmt::Display for Came {
+/// An expectation that fails: what it wants, and what came.
+#[derive(Clone, Copy)]
+pub struct Failure<'a> {
+    /// What it wants.
+    pub wish: &'a Wish,
+    /// What came.
+    pub came: &'a Came,
+}
+
+impl fmt::Display for Failure<'_> {
     fn fmt<W: fmt::Write>(&self, f: &mut fmt::Formatter<W>) -> fmt::Result {
-        match self {
+        let wish = self.wish;
+        write!(f, "expected {wish}, got ")?;
+        match self.came {
             Came::NoRequest => f.write_str("no request, since the run ended before it"),
             Came::Nothing => f.write_str("nothing"),
             Came::Other => f.write_str("something that isn't a reply to it"),
-            Came::Response(response, data) => write_response(f, *response, data.as_slice()),
+            Came::Reply(answer) => write_answer(f, wish, answer),
             Came::After(millis) => write!(f, "a reply after {millis} ms"),
         }
+    }
+}
+
+/// Writes what a reply has in place of what is wanted.
+fn write_answer<W: fmt::Write>(
+    f: &mut fmt::Formatter<W>,
+    wish: &Wish,
+    answer: &Answer,
+) -> fmt::Result {
+    let data = answer.body.as_slice();
+    let length = data.len();
+    let waiting = answer.waiting;
+    match wish {
+        Wish::Length { .. } => write!(f, "LENGTH {length}"),
+        Wish::MessageCount(_) => write!(f, "MESSAGE_COUNT {waiting}"),
+        Wish::Parameter(_) => write_parameter(f, answer.pid),
+        _ => write_response(f, answer.response, data),
+    }
+}
+
+/// Writes a parameter by its name or by its PID.
+fn write_parameter<W: fmt::Write>(f: &mut fmt::Formatter<W>, pid: u16) -> fmt::Result {
+    match parameter_name(pid) {
+        Some(name) => write!(f, "PARAMETER {name}"),
+        None => write!(f, "PARAMETER {pid:04X}"),
     }
 }
 
@@ -115,7 +157,10 @@ fn put_verdict(
     let Expectation { line, wish, .. } = expectation;
     match verdict {
         Verdict::Passed => Ok(()),
-        Verdict::Failed(came) => write!(text, "line {line}: expected {wish}, got {came}\n"),
+        Verdict::Failed(came) => {
+            let failure = Failure { wish, came };
+            write!(text, "line {line}: {failure}\n")
+        }
         Verdict::Skipped => write!(
             text,
             "line {line}: skipped {wish}: the trace has no times\n"

@@ -22,7 +22,7 @@ use std::io::Write;
 /// A script for a device.
 #[derive(Drop)]
 pub struct Play<'a> {
-    uid: Uid,
+    pub(crate) uid: Uid,
     /// Who sends.
     console: Uid,
     /// By what name messages tell of the script.
@@ -200,6 +200,7 @@ fn judge_all<'a, H: Host, P: Port, F: Write>(
     let results = Results::of(
         teller.rt(),
         play.results,
+        play.uid,
         play.name,
         &play.expectations,
         lines,

@@ -4,6 +4,7 @@ ghost use Rattle.std.specs.Prelude.{IfOk};
 ghost use Rattle.rdm_expect.specs.Sheets.{IsSheet};
 
 use rdm_expect::{Expectation, Sheet, SheetError, judge, parse, put_junit, put_report, tally_of};
+use rdm_frame::Uid;
 use rdm_host::fault::Fault;
 use rdm_host::host::Host;
 use rdm_host::source::save;
@@ -33,17 +34,18 @@ pub struct Results {
 }
 
 impl Results {
-    /// What came of them by the lines of the trace of the script that has this name. Where a path is given, it is also written there, as
-    /// JUnit XML.
+    /// What came of them by the lines of the trace of the script that has this name, played on the device with this UID. Where a path is given,
+    /// it is also written there, as JUnit XML.
     pub fn of<'a, H: Host>(
         rt: H,
         path: Option<&'a str>,
+        uid: Uid,
         name: &str,
         expectations: &[Expectation],
         lines: &[Line],
     ) -> Result<Results, Fault<'a>> {
         let alloc = rt.alloc();
-        let verdicts = judge(alloc, expectations, lines)?;
+        let verdicts = judge(alloc, uid, expectations, lines)?;
         if let Some(path) = path {
             let mut markup = String::new(alloc);
             put_junit(&mut markup, name, expectations, &verdicts)?;

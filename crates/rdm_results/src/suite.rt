@@ -1,8 +1,9 @@
 //! What is told of several scripts.
 
 use rdm_expect::{
-    Expectation, Tally, Verdict, judge, put_escaped, put_suite, put_suites, tally_of,
+    Expectation, Failure, Tally, Verdict, judge, put_escaped, put_suite, put_suites, tally_of,
 };
+use rdm_frame::Uid;
 use rdm_host::fault::Fault;
 use rdm_host::host::Host;
 use rdm_host::source::save;
@@ -34,16 +35,17 @@ impl SuiteResults {
         }
     }
 
-    /// The script of this name was played, and its trace has these lines. Gives its report: a line for each expectation that failed or was
-    /// skipped, and one with how many there are of each.
+    /// The script of this name was played on the device with this UID, and its trace has these lines. Gives its report: a line for each
+    /// expectation that failed or was skipped, and one with how many there are of each.
     pub fn take(
         &mut self,
         alloc: Global,
+        uid: Uid,
         name: &str,
         expectations: &[Expectation],
         lines: &[Line],
     ) -> Result<String, AllocError> {
-        let verdicts = judge(alloc, expectations, lines)?;
+        let verdicts = judge(alloc, uid, expectations, lines)?;
         put_suite(&mut self.markup, name, expectations, &verdicts)?;
         self.played = self.played.saturating_add(1);
         self.count(tally_of(&verdicts));
@@ -124,7 +126,10 @@ fn put_verdict(
     let Expectation { line, wish, .. } = expectation;
     match verdict {
         Verdict::Passed => Ok(()),
-        Verdict::Failed(came) => write!(text, "{name}:{line}: expected {wish}, got {came}\n"),
+        Verdict::Failed(came) => {
+            let failure = Failure { wish, came };
+            write!(text, "{name}:{line}: {failure}\n")
+        }
         Verdict::Skipped => write!(
             text,
             "{name}:{line}: skipped {wish}: the trace has no times\n"

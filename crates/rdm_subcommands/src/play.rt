@@ -51,7 +51,8 @@ fn judge_played<'a, H: Host>(
     played: &Played,
 ) -> Result<(), Fault<'a>> {
     let path = asked.get_str(rdm_usage::JUNIT);
-    let results = Results::of(rt, path, name, &played.expectations, &played.lines)?;
+    let uid = played.told.uid();
+    let results = Results::of(rt, path, uid, name, &played.expectations, &played.lines)?;
     let report = results.report.as_str();
     if path == Some("-") || asked.get_str(rdm_usage::CHART) == Some("-") {
         // Nobody is left to be told if this can't be written.

@@ -52,6 +52,11 @@ impl Told {
         Known::of(self.uid, &self.profile)
     }
 
+    /// Its UID.
+    pub(crate) fn uid(&self) -> Uid {
+        self.uid
+    }
+
     /// What a chart calls it.
     pub(crate) fn named(&self) -> Named<'_> {
         Named {

@@ -3,9 +3,16 @@
 use rdm_expect::{
     SheetError, judge, parse, put_escaped, put_junit, put_report, put_suite, put_suites,
 };
+use rdm_frame::Uid;
 use rdm_trace::lines_of;
 use std::alloc::Global;
 use std::process::Abort;
+
+/// The device of the trace.
+const DEVICE: Uid = Uid {
+    maker: 0x7FF0,
+    device: 1,
+};
 
 /// A command and its reply, a poll, and commands that go wrong: the frames are those of docs/SCRIPT.md and of examples/.
 const TRACE: &[u8] = b"# 1.000 s
@@ -29,17 +36,44 @@ heard reply
 end
 ";
 
-/// The report of a text by that trace.
-fn report(rt: &impl Abort, alloc: Global, text: &[u8]) -> String {
+/// DISC_UNIQUE_BRANCH, answered by the device; with the answer lost, and altered; with 7 bytes of the preamble lost, and 8; by another device;
+/// and by nobody.
+const SEARCH: &[u8] =
+    b"send CC0124FFFFFFFFFFFF7FF00000000201010000001000010C000000000000FFFFFFFFFFFF0E75
+reply FEFEFEFEFEFEFEAAFF7FFAF5AA55AA55AA55AB55AF57EA7F
+heard ignored
+send CC0124FFFFFFFFFFFF7FF00000000201010000001000010C000000000000FFFFFFFFFFFF0E75 lost-reply
+reply FEFEFEFEFEFEFEAAFF7FFAF5AA55AA55AA55AB55AF57EA7F
+heard nothing
+send CC0124FFFFFFFFFFFF7FF00000000201010000001000010C000000000000FFFFFFFFFFFF0E75 bad-reply 9 1
+reply FEFEFEFEFEFEFEAAFF7FFAF5AA55AA55AA55AB55AF57EA7F
+heard ignored
+send CC0124FFFFFFFFFFFF7FF00000000201010000001000010C000000000000FFFFFFFFFFFF0E75
+reply AAFF7FFAF5AA55AA55AA55AB55AF57EA7F
+heard ignored
+send CC0124FFFFFFFFFFFF7FF00000000201010000001000010C000000000000FFFFFFFFFFFF0E75
+reply FF7FFAF5AA55AA55AA55AB55AF57EA7F
+heard ignored
+send CC0124FFFFFFFFFFFF7FF00000000201010000001000010C000000000000FFFFFFFFFFFF0E75
+reply FEFEFEFEFEFEFEAAFF7FFAF5AA55AA55AA55AA57AF57EA7F
+heard ignored
+send CC0124FFFFFFFFFFFF7FF00000000201010000001000010C000000000000FFFFFFFFFFFF0E75
+reply none
+heard nothing
+end
+";
+
+/// The report of a text by a trace.
+fn report(rt: &impl Abort, alloc: Global, trace: &[u8], text: &[u8]) -> String {
     let sheet = parse(alloc, text).expect(rt, "expectations");
-    let lines = lines_of(alloc, TRACE).expect(rt, "a trace");
-    let verdicts = judge(alloc, &sheet.expectations, &lines).expect(rt, "memory");
+    let lines = lines_of(alloc, trace).expect(rt, "a trace");
+    let verdicts = judge(alloc, DEVICE, &sheet.expectations, &lines).expect(rt, "memory");
     let mut report = String::new(alloc);
     put_report(&mut report, &sheet.expectations, &verdicts).expect(rt, "memory");
     report
 }
 
-/// Texts, and the report of each by that trace.
+/// Texts, and the report of each by the first trace.
 const REPORTS: &[(&[u8], &str)] = &[
     (
         b"get dev root 1000 -
@@ -49,6 +83,25 @@ expect reply
  expect\twithin 250 ms\r
 ",
         "4 passed, 0 failed
+",
+    ),
+    (
+        b"get dev root 1000 -
+expect LENGTH 1
+expect length 2 to 32
+expect MESSAGE_COUNT 0
+expect message_count 255
+expect PARAMETER identify_device
+expect parameter 0082
+expect PARAMETER 8000
+expect found
+",
+        "line 3: expected LENGTH 2 to 32, got LENGTH 1
+line 5: expected MESSAGE_COUNT 255, got MESSAGE_COUNT 0
+line 7: expected PARAMETER DEVICE_LABEL, got PARAMETER IDENTIFY_DEVICE
+line 8: expected PARAMETER 8000, got PARAMETER IDENTIFY_DEVICE
+line 9: expected found, got ACK, DATA 00
+3 passed, 5 failed
 ",
     ),
     (
@@ -109,9 +162,38 @@ line 7: expected ACK, got no request, since the run ended before it
 #[test]
 fn expectations_are_reported(rt: HostRuntime) {
     for (text, wanted) in REPORTS {
-        let report = report(&rt, rt.alloc(), text);
+        let report = report(&rt, rt.alloc(), TRACE, text);
         assert!(rt; report.as_str() == *wanted, "{report}");
     }
+}
+
+/// What a search hears: the answers to the first and to the fourth request are those of the device.
+#[test]
+fn who_is_found_is_reported(rt: HostRuntime) {
+    let text = b"disc 1
+expect found
+disc 2
+expect found
+disc 3
+expect found
+disc 4
+expect found
+disc 5
+expect found
+disc 6
+expect found
+disc 7
+expect found
+expect nothing";
+    let wanted = "line 4: expected found, got nothing
+line 6: expected found, got something that isn't a reply to it
+line 10: expected found, got something that isn't a reply to it
+line 12: expected found, got something that isn't a reply to it
+line 14: expected found, got nothing
+3 passed, 5 failed
+";
+    let report = report(&rt, rt.alloc(), SEARCH, text);
+    assert!(rt; report.as_str() == wanted, "{report}");
 }
 
 /// Texts, and the line and the words of the flaw that is told of each.
@@ -139,6 +221,26 @@ const FLAWS: &[(&[u8], usize, &str)] = &[
     ),
     (b"get\nexpect DATA", 2, "this isn't valid data"),
     (b"get\nexpect DATA 012", 2, "this isn't valid data"),
+    (b"get\nexpect LENGTH", 2, "this isn't a valid length"),
+    (b"get\nexpect LENGTH 256", 2, "this isn't a valid length"),
+    (b"get\nexpect LENGTH 1 to", 2, "this isn't a valid length"),
+    (b"get\nexpect LENGTH 1 or 2", 2, "this isn't a valid length"),
+    (
+        b"get\nexpect LENGTH 1 to 2 3",
+        2,
+        "this has a word too many",
+    ),
+    (
+        b"get\nexpect MESSAGE_COUNT -",
+        2,
+        "this isn't a valid message count",
+    ),
+    (
+        b"get\nexpect PARAMETER 82",
+        2,
+        "this isn't a valid parameter",
+    ),
+    (b"get\nexpect found 1", 2, "this has a word too many"),
     (b"get\nexpect within 2", 2, "this isn't a valid time"),
     (
         b"get\nexpect within 4294967296 ms",
@@ -198,7 +300,7 @@ fn results_are_written_as_junit(rt: HostRuntime) {
     let text = b"get\nset\nexpect NACK\nexpect DATA 0102\nexpect within 2 s\n";
     let sheet = parse(alloc, text).expect(&rt, "expectations");
     let lines = lines_of(alloc, TRACE).expect(&rt, "a trace");
-    let verdicts = judge(alloc, &sheet.expectations, &lines).expect(&rt, "memory");
+    let verdicts = judge(alloc, DEVICE, &sheet.expectations, &lines).expect(&rt, "memory");
     let mut markup = String::new(alloc);
     put_junit(&mut markup, "a&<b>\"", &sheet.expectations, &verdicts).expect(&rt, "memory");
     assert!(rt; markup.as_str() == XML, "{markup}");
