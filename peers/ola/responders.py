@@ -25,6 +25,10 @@ TOP = HERE.parents[1]
 TABLES = HERE / "responders"
 # What each device is asked to see whether it keeps the reply rules, and which rules it breaks.
 PROBE, JUDGED = HERE / "probe.script", TABLES / "judged.txt"
+# Its SETs are slow, and those of a virtual fixture aren't.
+WAITING = HERE / "waiting.script"
+MISCOUNTED = ["1: wrong response type (E1.20 section 6.3)", "2: wrong response type (E1.20 section 6.3)",
+              "4: too few messages wait (E1.20 section 6.2.8)"]
 WRONG = re.compile(r"^([0-9]+): WRONG: (.*)$", re.MULTILINE)
 # The scripts with which each device is tested, and of which of them expectations fail. Two are for a device that is alone on its line.
 SUITE, TESTED, ALONE = TOP / "suite", TABLES / "tested.txt", ("branch.script", "mute.script")
@@ -269,17 +273,23 @@ def check_judged(console, devices, room):
     """What `check` finds wrong in the replies of each device to the probe, beside the file that `describe` prints of it."""
     wanted = told_in(JUDGED)
     for number, device in enumerate(devices):
-        _, printed, _, _ = console.run("play", str(PROBE), "--uid", device.uid)
-        trace = room / f"probed{number}.trace"
-        trace.write_text(printed, encoding="utf-8")
-        file = room / f"described{number}.toml"
-        ran = subprocess.run([PROGRAM, "check", trace, "--fixture", file], stdin=subprocess.DEVNULL, stdout=subprocess.PIPE,
-                             stderr=subprocess.STDOUT, text=True, timeout=60, check=False)
-        console.expect(f"what check finds wrong in {device.uid}", [f"{at}: {rule}" for at, rule in WRONG.findall(ran.stdout)],
-                       wanted.get(device.uid))
-    # The probes broadcast. That is a slow command of the ack-timer responder, with a result in its queue.
+        console.expect(f"what check finds wrong in {device.uid}", judged(console, number, device, PROBE, room), wanted.get(device.uid))
+        if "Ack Timer" in device.found:
+            console.expect(f"how many wait in {device.uid}", judged(console, number, device, WAITING, room), MISCOUNTED)
+
+
+def judged(console, number, device, script, room):
+    """What `check` finds wrong in the replies of a device to a script. No message waits before it."""
+    # Probes broadcast. That is a slow command of the ack-timer responder, with a result in its queue.
     time.sleep(SECONDS_OF_JOB)
-    console.run("collect", ",".join(device.uid for device in devices))
+    console.run("collect", device.uid)
+    _, printed, _, _ = console.run("play", str(script), "--uid", device.uid)
+    trace = room / f"probed{number}.trace"
+    trace.write_text(printed, encoding="utf-8")
+    file = room / f"described{number}.toml"
+    ran = subprocess.run([PROGRAM, "check", trace, "--fixture", file], stdin=subprocess.DEVNULL, stdout=subprocess.PIPE,
+                         stderr=subprocess.STDOUT, text=True, timeout=60, check=False)
+    return [f"{at}: {rule}" for at, rule in WRONG.findall(ran.stdout)]
 
 
 def check_tested(console, devices):
@@ -337,6 +347,8 @@ def check_more_of_olas(console, devices, room):
     """What is asked of OLA's responders besides."""
     check_described(console, devices, room)
     check_judged(console, devices, room)
+    time.sleep(SECONDS_OF_JOB)
+    console.run("collect", ",".join(device.uid for device in devices))
     Survey(console, devices).check()
     check_slow(console, next(device.uid for device in devices if "Ack Timer" in device.found))
     check_watched(console, devices)

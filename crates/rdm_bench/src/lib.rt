@@ -1,7 +1,7 @@
 //! The responder as a benchmark hears it: frames that are heard over and over, the reports of the jobs that they start,
 //! and what the replies come to.
 //!
-//! `rdm_bench_run` is called from C (`bench/driver.c`). What it answers hangs on every byte of every reply, so that no
+//! `rdm_bench_run` is called from C (`bench/driver.c`). What it answers depends on every byte of every reply, so that no
 //! compiler can leave the work out.
 #![tactic(auto)]
 

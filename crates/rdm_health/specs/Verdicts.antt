@@ -37,7 +37,7 @@ verdict_word verdict.Fine = codes "ok"
 verdict_word verdict.BelowNormal = codes "below normal"
 verdict_word verdict.AboveNormal = codes "above normal"
 verdict_word verdict.OutOfRange = codes "out of range"
-verdict_word verdict.NotTold = codes "not told"
+verdict_word verdict.NotTold = codes "not reported"
 
 -- What it says of the value is so: it is fine if it is in the normal range, or none is defined and it is in the range of the sensor.
 abbrev pub IsRight : Verdict → SensorDefinition → ℤ → Type 0

@@ -30,7 +30,7 @@ impl Verdict {
             Verdict::BelowNormal => "below normal",
             Verdict::AboveNormal => "above normal",
             Verdict::OutOfRange => "out of range",
-            Verdict::NotTold => "not told",
+            Verdict::NotTold => "not reported",
         }
     }
 

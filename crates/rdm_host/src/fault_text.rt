@@ -136,6 +136,11 @@ fn write_refused<W: fmt::Write>(f: &mut fmt::Formatter<W>, fault: &Fault<'_>) ->
         Fault::SameOutput(path) => {
             write!(f, "error: {}: two outputs are the same file", Name(path))
         }
+        Fault::TooManySubs(name, 0) => write!(
+            f,
+            "error: --subs: {}: the fixture has no sub-devices",
+            Name(name)
+        ),
         Fault::TooManySubs(name, most) => write!(
             f,
             "error: --subs: {}: the fixture has only {most} sub-devices",

@@ -25,7 +25,7 @@ pub record OfOneFixture (h k : History) : Type 0 where
   pub uid : k.setup.uid ≡ h.setup.uid
   pub profile : k.setup.profile ≡ h.setup.profile
 
--- ---- what hangs on what a fixture keeps
+-- ---- what depends on what a fixture keeps
 
 -- a request that sets a parameter. Table A-1.
 abbrev pub is_set : Frame → Bool
@@ -114,7 +114,7 @@ abbrev pub on_frames : Frame → Option Frame → Option Frame → Verdict
 on_frames f (Some g) (Some r) = on_rule (broken f g r)
 on_frames f _ _ = Open doubts.Altered
 
--- nothing of the response to a mute hangs on what the fixture keeps. Section 7.6.
+-- nothing of the response to a mute depends on what the fixture keeps. Section 7.6.
 abbrev pub on_mute : Verdict → Verdict
 on_mute (Open doubts.Kept) = Wrong rules.Mute
 on_mute verdict = verdict

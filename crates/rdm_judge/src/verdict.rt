@@ -19,7 +19,7 @@ pub enum Verdict {
     Right,
     /// No fixture like this replies so, whatever happened to it: the reply breaks this rule.
     Wrong(Rule),
-    /// Some fixture like this may reply so. Whether this one may hangs on what a trace doesn't say.
+    /// Some fixture like this may reply so. Whether this one may depends on what a trace doesn't say.
     Open(Doubt),
 }
 
@@ -95,10 +95,10 @@ pub enum Doubt {
     /// It comes from another device, or several answered at once.
     #[error("another device answered")]
     Other,
-    /// It hangs on whether the device is muted.
+    /// It depends on whether the device is muted.
     #[error("the device may be muted or not")]
     Muted,
-    /// It hangs on the values that the device keeps, or on what waits in its queue.
-    #[error("it hangs on what the device keeps")]
+    /// It depends on the values that the device keeps, or on what waits in its queue.
+    #[error("it depends on what the device keeps")]
     Kept,
 }

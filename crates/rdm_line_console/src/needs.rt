@@ -4,6 +4,7 @@ use super::entry::FIRST_OF_MAKERS;
 use rdm_collector::{Action, Command, Load, Port};
 use rdm_console::{Lack, Mailbox};
 use rdm_entry::parameter_named;
+use rdm_frame::Nack;
 use rdm_frame::digits::word_in;
 use rdm_frame::standard::PARAMETER_DESCRIPTION;
 use rdm_host::fault::Fault;
@@ -15,17 +16,23 @@ use std::alloc::{AllocError, Global};
 use std::io::Write;
 use std::str;
 
-/// What a line that says a need begins with.
-const NEEDS: &str = "# needs ";
+/// The word of a comment that says a need.
+const NEEDS: &str = "needs ";
+
+/// The word in front of a parameter that has to take a value.
+const SET: &str = "SET ";
 
 /// Why a line isn't one.
-const FLAW: &str = "this isn't a valid need: expected a parameter, sub-devices or no sub-devices";
+const FLAW: &str =
+    "this isn't a valid need: expected a parameter, SET and a parameter, sub-devices or no sub-devices";
 
 /// Something that a script needs.
 #[derive(Clone, Copy, PartialEq, Eq)]
 pub(crate) enum Need {
     /// The parameter with this PID.
     Parameter(u16),
+    /// The parameter with this PID, whose value can be set.
+    Settable(u16),
     /// At least one sub-device.
     SubDevices,
     /// No sub-devices.
@@ -38,9 +45,9 @@ impl Need {
         match words {
             "sub-devices" => Some(Need::SubDevices),
             "no sub-devices" => Some(Need::NoSubDevices),
-            word => match word_in(word.as_bytes()) {
-                Some(pid) => Some(Need::Parameter(pid)),
-                None => Some(Need::Parameter(parameter_named(word)?)),
+            _ => match words.strip_prefix(SET) {
+                Some(word) => Some(Need::Settable(pid_said(word.trim())?)),
+                None => Some(Need::Parameter(pid_said(words)?)),
             },
         }
     }
@@ -54,7 +61,19 @@ impl Need {
                 Some(name) => format!(in alloc; "no {name}"),
                 None => format!(in alloc; "no parameter {pid:04X}"),
             },
+            Need::Settable(pid) => match parameter_name(pid) {
+                Some(name) => format!(in alloc; "no {name} that can be set"),
+                None => format!(in alloc; "no parameter {pid:04X} that can be set"),
+            },
         }
+    }
+}
+
+/// The PID that a word says: 4 digits, or the name of the parameter.
+fn pid_said(word: &str) -> Option<u16> {
+    match word_in(word.as_bytes()) {
+        Some(pid) => Some(pid),
+        None => parameter_named(word),
     }
 }
 
@@ -79,10 +98,10 @@ pub(crate) fn needs_in<'a>(
     Ok(needs)
 }
 
-/// The words of a need, if a line says one.
+/// The words of a need, if a line says one, whatever spaces stand around them.
 fn words_of(line: &[u8]) -> Option<&str> {
     match str::from_utf8(line) {
-        Ok(text) => Some(text.strip_prefix(NEEDS)?.trim()),
+        Ok(text) => Some(text.strip_prefix('#')?.trim().strip_prefix(NEEDS)?.trim()),
         Err(_) => None,
     }
 }
@@ -103,29 +122,45 @@ impl Equipment {
         mailbox: &mut Mailbox,
     ) -> Result<Equipment, Fault<'a>> {
         let alloc = console.teller.rt().alloc();
-        let outcome = read(console, mailbox, Kind::DeviceInfo)?;
+        let outcome = get(console, mailbox, Kind::DeviceInfo.pid())?;
         if let Outcome::Lacks(Lack::Silent) = &outcome {
             return Err(Fault::Line(fault_of(mailbox.uid(), outcome)));
         }
         let info = data_of(alloc, outcome);
-        let listed = read(console, mailbox, Kind::SupportedParameters)?;
+        let listed = get(console, mailbox, Kind::SupportedParameters.pid())?;
         Ok(Equipment {
             listed: data_of(alloc, listed),
             info: DeviceInfo::of(info.as_slice()),
         })
     }
 
-    /// The first of these needs that it doesn't meet.
-    pub(crate) fn unmet(&self, needs: &[Need]) -> Option<Need> {
-        needs.iter().copied().find(|need| !self.meets(*need))
+    /// The first of these needs that the device doesn't meet. It is asked for what can't be known otherwise.
+    pub(crate) fn unmet<'a, H: Host, P: Port, F: Write>(
+        &self,
+        console: &mut Console<'a, H, P, F>,
+        mailbox: &mut Mailbox,
+        needs: &[Need],
+    ) -> Result<Option<Need>, Fault<'a>> {
+        for need in needs {
+            if !self.meets(console, mailbox, *need)? {
+                return Ok(Some(*need));
+            }
+        }
+        Ok(None)
     }
 
-    /// Whether it meets a need.
-    fn meets(&self, need: Need) -> bool {
+    /// Whether the device meets a need.
+    fn meets<'a, H: Host, P: Port, F: Write>(
+        &self,
+        console: &mut Console<'a, H, P, F>,
+        mailbox: &mut Mailbox,
+        need: Need,
+    ) -> Result<bool, Fault<'a>> {
         match need {
-            Need::Parameter(pid) => self.has(pid),
-            Need::SubDevices => self.subs() > 0,
-            Need::NoSubDevices => self.subs() == 0,
+            Need::Parameter(pid) => Ok(self.has(pid)),
+            Need::Settable(pid) => Ok(self.has(pid) && is_settable(console, mailbox, pid)?),
+            Need::SubDevices => Ok(self.subs() > 0),
+            Need::NoSubDevices => Ok(self.subs() == 0),
         }
     }
 
@@ -174,18 +209,50 @@ impl Equipment {
     }
 }
 
-/// Asks the device of a mailbox for a parameter of the root.
-fn read<'a, H: Host, P: Port, F: Write>(
+/// Whether the device of a mailbox takes back the value that a parameter of its root has. If the value can only be read, it rejects that
+/// (E1.20 table A-17).
+fn is_settable<'a, H: Host, P: Port, F: Write>(
     console: &mut Console<'a, H, P, F>,
     mailbox: &mut Mailbox,
-    kind: Kind,
+    pid: u16,
+) -> Result<bool, Fault<'a>> {
+    let Outcome::Done(value) = get(console, mailbox, pid)? else {
+        return Ok(false);
+    };
+    let Some(load) = Load::from_slice(value.as_slice()) else {
+        return Ok(false);
+    };
+    match send(console, mailbox, Action::Set, pid, load)? {
+        Outcome::Rejected(reason) => Ok(
+            reason != Nack::UnsupportedCommandClass.code() && reason != Nack::WriteProtect.code(),
+        ),
+        _ => Ok(true),
+    }
+}
+
+/// Asks the device of a mailbox for a parameter of the root.
+fn get<'a, H: Host, P: Port, F: Write>(
+    console: &mut Console<'a, H, P, F>,
+    mailbox: &mut Mailbox,
+    pid: u16,
+) -> Result<Outcome, Fault<'a>> {
+    send(console, mailbox, Action::Get, pid, Load::new())
+}
+
+/// Sends a command of a parameter of the root to the device of a mailbox, and gives what came of it.
+fn send<'a, H: Host, P: Port, F: Write>(
+    console: &mut Console<'a, H, P, F>,
+    mailbox: &mut Mailbox,
+    action: Action,
+    pid: u16,
+    load: Load,
 ) -> Result<Outcome, Fault<'a>> {
     let command = Command {
         dst: mailbox.uid(),
-        action: Action::Get,
+        action,
         sub: 0,
-        pid: kind.pid(),
-        load: Load::new(),
+        pid,
+        load,
     };
     console.outcome(mailbox, &command)
 }

@@ -105,7 +105,7 @@ pub(crate) fn test_through<'a, H: Host, P: Port, F: Write>(
     let equipment = Equipment::asked(console, &mut mailbox)?;
     let mut results = SuiteResults::new(rt.alloc());
     for trial in &suite.trials {
-        let report = try_one(console, &equipment, &mut results, trial)?;
+        let report = try_one(console, &mut mailbox, &equipment, &mut results, trial)?;
         teller.tell(report.as_bytes())?;
     }
     teller.tell(results.sum(rt.alloc())?.as_bytes())?;
@@ -118,22 +118,25 @@ pub(crate) fn test_through<'a, H: Host, P: Port, F: Write>(
 /// Plays a script, if the device has what it needs. Gives what is told of it.
 fn try_one<'a, H: Host, P: Port, F: Write>(
     console: &mut Console<'a, H, P, F>,
+    mailbox: &mut Mailbox,
     equipment: &Equipment,
     results: &mut SuiteResults,
     trial: &Trial<'a>,
 ) -> Result<String, Fault<'a>> {
     let alloc = console.teller.rt().alloc();
     let Play {
+        uid,
         name,
         expectations,
         ..
     } = &trial.play;
-    if let Some(need) = equipment.unmet(trial.needs.as_slice()) {
+    let needs = trial.needs.as_slice();
+    if let Some(need) = equipment.unmet(console, mailbox, needs)? {
         let lack = need.lack(alloc)?;
         return Ok(results.leave_out(alloc, name, lack.as_str())?);
     }
     console.port.log().judge();
     play_script(console, &trial.play)?;
     let lines = console.port.log().judged();
-    Ok(results.take(alloc, name, expectations.as_slice(), lines)?)
+    Ok(results.take(alloc, *uid, name, expectations.as_slice(), lines)?)
 }

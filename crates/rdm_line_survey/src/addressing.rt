@@ -76,10 +76,11 @@ pub(crate) fn settle<'a, H: Host, P: Port, F: Write>(
     if is_set {
         return make_all(console, settings);
     }
-    let line = format!(in console.teller.rt().alloc();
-        "nothing was set: --yes makes {} settings\n",
-        settings.len()
-    )?;
+    let alloc = console.teller.rt().alloc();
+    let line = match settings.len() {
+        1 => String::from_str(alloc, "nothing was set: --yes makes 1 setting\n")?,
+        count => format!(in alloc; "nothing was set: --yes makes {count} settings\n")?,
+    };
     console.teller.tell(line.as_bytes())
 }
 

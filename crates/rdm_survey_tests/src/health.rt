@@ -145,8 +145,8 @@ const SENSORS: &str =
 7FF0:00000001     0   Lamp                 temperature      85 °C        20     97      60       0 to 80      above normal
 7FF0:00000001/2   1   Supply               voltage          22799 mV DC  -      -       -        22800 to 25200 below normal
 7FF0:00000001     2   Eighteen letters, a~ type 80          -5 (prefix 20, unit 80) -      -       7        from -5      ok
-7FF0:00000001     3   -                    -                -7           -      -       -        -            not told
-7FF0:00000001     255 -                    -                -            -      -       -        -            not told
+7FF0:00000001     3   -                    -                -7           -      -       -        -            not reported
+7FF0:00000001     255 -                    -                -            -      -       -        -            not reported
 ";
 
 /// The sub-device, the number, the definition and the value of each.

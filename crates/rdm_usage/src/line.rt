@@ -27,7 +27,7 @@ const TRACE_FILE: Argument = Argument {
     id: TRACE,
     form: Form::Option,
     value: "FILE",
-    help: "Also write what is sent and heard to this file,\nas a trace",
+    help: "Also write requests and replies to this file,\nas a trace",
 };
 
 const TRACE_FORM: Argument = Argument {
@@ -78,7 +78,7 @@ pub(crate) const OF_TEST: &[Argument] = &[
         id: JUNIT,
         form: Form::Option,
         value: "FILE.xml",
-        help: "Also write what came of each expect line to this file,\nas JUnit XML; if -, print it instead of the report",
+        help: "Also write the results of expectations to this file,\nas JUnit XML; if -, print it instead of the report",
     },
 ];
 
@@ -93,7 +93,7 @@ const ONE_DEVICE: Argument = Argument {
     id: UID,
     form: Form::RequiredPlace,
     value: "UID",
-    help: "The device, as 7FF0:00000001",
+    help: "The UID of the device, such as 7FF0:00000001",
 };
 
 /// Devices, all of them unless some are named.
@@ -316,7 +316,7 @@ pub(crate) fn command<'a>(alloc: Global) -> Result<Command<'a>, AllocError> {
 fn with_arguments<'a>(alloc: Global) -> Result<Command<'a>, AllocError> {
     let arguments = arguments(alloc, OF_LINE, Reach::All)?;
     Command::new(alloc, "line")
-        .about("Be a console on a real line, through an ENTTEC DMX USB Pro")
+        .about("Control a real line through an ENTTEC DMX USB Pro")
         .subcommand_required(true)
         .arg_required_else_help(true)
         .args(arguments)

@@ -13,7 +13,7 @@ pub const FIXTURE: &str = "fixture";
 pub const WORDS: &str = "words";
 /// The option that names a file for the chart of a run.
 pub const CHART: &str = "chart";
-/// The option that names a file for what came of the expectations of a script.
+/// The option that names a file for the results of expectations.
 pub const JUNIT: &str = "junit";
 /// The option that names the file of a chart.
 pub const OUTPUT: &str = "output";
@@ -130,7 +130,7 @@ pub(crate) const RESULTS: Argument = Argument {
     id: JUNIT,
     form: Form::Option,
     value: "FILE.xml",
-    help: "Also write what came of each expect line to this file,\nas JUnit XML; if -, print it instead of the trace",
+    help: "Also write the results of expectations to this file,\nas JUnit XML; if -, print it instead of the trace",
 };
 
 const SUB_DEVICES: Argument = Argument {
