@@ -42,9 +42,13 @@ count_in word = option_map (λ n. MessageCount n) (number_up_to 255 word)
 unfoldable pub parameter_in : List ℕ → Option Wish
 parameter_in word = option_map (λ pid. Parameter pid) (option_or (pid_named word) (number_in w16 word))
 
--- how many bytes the data have, at least and at most
+-- at least so many bytes and at most so many, if that can be
+abbrev pub between : ℕ → ℕ → Option Wish
+between least most = if nat_le least most then Some (Length least most) else None
+
+-- how many bytes the data have, at least and at most: a frame has at most 231
 unfoldable pub length_of : List ℕ → List ℕ → Option Wish
-length_of least most = option_and_then (λ n. option_map (λ m. Length n m) (number_up_to 255 most)) (number_up_to 255 least)
+length_of least most = option_and_then (λ n. option_and_then (between n) (number_up_to 231 most)) (number_up_to 231 least)
 
 -- one number, or two with TO between them
 abbrev pub length_in : List (List ℕ) → Result Wish Flaw

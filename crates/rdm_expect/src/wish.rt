@@ -3,7 +3,7 @@
 ghost use Rattle.std.specs.Prelude.{◌≡◌, ◌≤◌, map, IfSome, Ok, Err};
 ghost use Rattle.std.specs.Option.{option_map_or};
 ghost use Rattle.rdm_trace.specs.Numbers.{unsigned_in, number_up_to};
-ghost use Rattle.rdm_expect.specs.Wishes.{alone, said_alone, nack_in, data_in, count_in, parameter_in, length_of, length_in, unit_in, time_of, time_in, part_named, wish_named, wish_in};
+ghost use Rattle.rdm_expect.specs.Wishes.{alone, said_alone, nack_in, data_in, count_in, parameter_in, between, length_of, length_in, unit_in, time_of, time_in, part_named, wish_named, wish_in};
 
 use crate::reasons::reason_in;
 use rdm_frame::Load;
@@ -81,11 +81,11 @@ impl Flaw {
             Flaw::Data =>
                 "this isn't valid data: expected -, or two hexadecimal digits for each of at most 231 bytes",
             Flaw::Length =>
-                "this isn't a valid length: expected a number of bytes such as 19, or two such as 0 to 32",
+                "this isn't a valid length: expected a number of at most 231 such as 19, or two such as 0 to 32",
             Flaw::Count =>
                 "this isn't a valid message count: expected a whole number of at most 255",
             Flaw::Parameter =>
-                "this isn't a valid parameter: expected a name in E1.20 such as LAMP_STATE, or 4 hexadecimal digits",
+                "this isn't a valid parameter: expected a name in a standard such as LAMP_STATE, or 4 hexadecimal digits",
             Flaw::Time =>
                 "this isn't a valid time: expected a whole number and s or ms, such as 500 ms",
             Flaw::End => "this has a word too many: expected the end of the line",
@@ -267,15 +267,36 @@ fn length_between(least: &[u8], most: &[u8]) -> Result<Wish, Flaw>
     }
 }
 
-/// The length between these numbers, if they are some.
+/// The length between these numbers, if they are some that data can have.
 #[tactic(auto, unfolding(crate::specs::Wishes::length_of))]
 fn length_of(least: &[u8], most: &[u8]) -> Option<Wish>
     ensures { result ≡ length_of least.now most.now }
 {
-    Some(Wish::Length {
-        least: slot_in(least)?,
-        most: slot_in(most)?,
-    })
+    between(length_said(least)?, length_said(most)?)
+}
+
+/// At least so many bytes, and at most so many, if that can be.
+fn between(least: u8, most: u8) -> Option<Wish>
+    ensures { result ≡ between least most }
+{
+    if least <= most {
+        Some(Wish::Length { least, most })
+    } else {
+        None
+    }
+}
+
+/// The number of bytes that a word writes, if data can have as many.
+#[tactic(auto, unfolding(rdm_trace::specs::Numbers::number_up_to))]
+fn length_said(word: &[u8]) -> Option<u8>
+    ensures { result ≡ number_up_to 231 word.now }
+{
+    let number = unsigned_in(word)?;
+    if number <= 231 {
+        u8::try_from(number).ok()
+    } else {
+        None
+    }
 }
 
 /// A time: a number and its unit.

@@ -2,6 +2,7 @@
 #![tactic(auto)]
 
 mod entry;
+mod equipment;
 mod errand;
 mod hint;
 mod line;

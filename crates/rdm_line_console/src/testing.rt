@@ -1,7 +1,8 @@
 //! A device is tested with scripts.
 
+use super::equipment::Equipment;
 use super::errand::refuse_results;
-use super::needs::{Equipment, Need, needs_in};
+use super::needs::{Need, needs_in};
 use super::playing::{Play, console_in, device_in, play_script};
 use clap::ArgMatches;
 use rdm_collector::{Port, Want};
@@ -10,7 +11,7 @@ use rdm_frame::Uid;
 use rdm_host::fault::Fault;
 use rdm_host::host::Host;
 use rdm_host::source::{Source, without_mark};
-use rdm_line_talk::Console;
+use rdm_line_talk::{Console, Teller};
 use rdm_results::SuiteResults;
 use rdm_script::MOST_BYTES;
 use std::io::Write;
@@ -104,25 +105,38 @@ pub(crate) fn test_through<'a, H: Host, P: Port, F: Write>(
     let mut mailbox = Mailbox::new(rt.alloc(), suite.console, suite.uid, Want::Advisory);
     let equipment = Equipment::asked(console, &mut mailbox)?;
     let mut results = SuiteResults::new(rt.alloc());
+    let mut ended = Ok(());
     for trial in &suite.trials {
-        let report = try_one(console, &mut mailbox, &equipment, &mut results, trial)?;
-        teller.tell(report.as_bytes())?;
+        ended = try_one(
+            console,
+            &mut mailbox,
+            &equipment,
+            &mut results,
+            trial,
+            &teller,
+        );
+        if ended.is_err() {
+            break;
+        }
     }
+    // What was played before the line failed is reported, too.
     teller.tell(results.sum(rt.alloc())?.as_bytes())?;
     if let Some(path) = suite.results {
         results.save(rt, path)?;
     }
+    ended?;
     results.end()
 }
 
-/// Plays a script, if the device has what it needs. Gives what is told of it.
+/// Plays a script, if the device has what it needs, and tells what came of it.
 fn try_one<'a, H: Host, P: Port, F: Write>(
     console: &mut Console<'a, H, P, F>,
     mailbox: &mut Mailbox,
     equipment: &Equipment,
     results: &mut SuiteResults,
     trial: &Trial<'a>,
-) -> Result<String, Fault<'a>> {
+    teller: &Teller<H>,
+) -> Result<(), Fault<'a>> {
     let alloc = console.teller.rt().alloc();
     let Play {
         uid,
@@ -132,11 +146,13 @@ fn try_one<'a, H: Host, P: Port, F: Write>(
     } = &trial.play;
     let needs = trial.needs.as_slice();
     if let Some(need) = equipment.unmet(console, mailbox, needs)? {
-        let lack = need.lack(alloc)?;
-        return Ok(results.leave_out(alloc, name, lack.as_str())?);
+        let lack = equipment.lack(alloc, need)?;
+        let report = results.leave_out(alloc, name, lack.as_str())?;
+        return teller.tell(report.as_bytes());
     }
     console.port.log().judge();
     play_script(console, &trial.play)?;
     let lines = console.port.log().judged();
-    Ok(results.take(alloc, *uid, name, expectations.as_slice(), lines)?)
+    let report = results.take(alloc, *uid, name, expectations.as_slice(), lines)?;
+    teller.tell(report.as_bytes())
 }

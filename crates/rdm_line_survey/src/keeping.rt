@@ -36,7 +36,10 @@ pub fn save<'a, H: Host, P: Port, F: Write>(
         return console.teller.tell(text.as_slice());
     }
     source::save(rt, path, text.as_slice())?;
-    let line = format!(in rt.alloc(); "saved {} devices to {path}\n", rows.len())?;
+    let line = match rows.len() {
+        1 => format!(in rt.alloc(); "saved 1 device to {path}\n")?,
+        count => format!(in rt.alloc(); "saved {count} devices to {path}\n")?,
+    };
     console.teller.on_errors().tell(line.as_bytes())
 }
 

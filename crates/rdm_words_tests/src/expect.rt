@@ -222,7 +222,8 @@ const FLAWS: &[(&[u8], usize, &str)] = &[
     (b"get\nexpect DATA", 2, "this isn't valid data"),
     (b"get\nexpect DATA 012", 2, "this isn't valid data"),
     (b"get\nexpect LENGTH", 2, "this isn't a valid length"),
-    (b"get\nexpect LENGTH 256", 2, "this isn't a valid length"),
+    (b"get\nexpect LENGTH 232", 2, "this isn't a valid length"),
+    (b"get\nexpect LENGTH 3 to 2", 2, "this isn't a valid length"),
     (b"get\nexpect LENGTH 1 to", 2, "this isn't a valid length"),
     (b"get\nexpect LENGTH 1 or 2", 2, "this isn't a valid length"),
     (
