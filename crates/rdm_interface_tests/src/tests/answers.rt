@@ -17,6 +17,9 @@ const MESSAGE: &str = "CC01187FF0000000027FF0000000010600020000310403000406";
 /// DISC_UNIQUE_BRANCH over all UIDs.
 const BRANCH: &str = "CC0124FFFFFFFFFFFF7FF00000000207010000001000010C000000000000FFFFFFFFFFFF0E7B";
 
+/// SET IDENTIFY_DEVICE of all devices, in transaction 5.
+const TO_ALL: &str = "CC0119FFFFFFFFFFFF7FF000000002050100000030100001010899";
+
 /// A request, with which label it is sent, what comes then, and what is heard.
 struct Row {
     asked: &'static str,
@@ -208,11 +211,39 @@ const ROWS: &[Row] = &[
         came: &[(5, "00"), (12, "")],
         heard: None,
     },
-    // Bytes that are no frame are sent too, and answered by nobody.
+    // Bytes that are no frame are sent, too. No device may answer them, and whatever comes is heard.
     Row {
         asked: "7EE7",
         label: 7,
-        came: &[(5, "007EE7"), (12, "")],
+        came: &[(12, "")],
+        heard: None,
+    },
+    Row {
+        asked: "7EE7",
+        label: 7,
+        came: &[(5, "007EE7")],
+        heard: Some("7EE7"),
+    },
+    Row {
+        asked: "7EE7",
+        label: 7,
+        came: &[(5, "00"), (12, "")],
+        heard: None,
+    },
+    // No device may answer a broadcast, and a response to it is heard, but no late one.
+    Row {
+        asked: TO_ALL,
+        label: 7,
+        came: &[(5, "00CC01187FF0000000027FF000000001050000000031100000040C")],
+        heard: Some("CC01187FF0000000027FF000000001050000000031100000040C"),
+    },
+    Row {
+        asked: TO_ALL,
+        label: 7,
+        came: &[
+            (5, "00CC01187FF0000000027FF000000001040000000031100000040B"),
+            (12, ""),
+        ],
         heard: None,
     },
     // A body that looks like messages.
