@@ -318,6 +318,21 @@ typedef struct {
     uint8_t worker;        /* 0 or 1: each worker's jobs end in order */
 } felosumay_job;
 
+/* A message of a device's queue, or a part of one (E1.20 section 10.3.1): as a collector has it from another device, or as it waits at a
+ * responder, which sends no parts. */
+typedef struct {
+    uint64_t count; /* how many bytes of data it has: 0 to 231 */
+    uint16_t pid;    /* its parameter, FELOSUMAY_PID_.. or one of the maker's own */
+    uint16_t sub;    /* the sub-device, 1 to 512, or 0 for the root */
+    uint16_t reason; /* if it is a NACK, why an earlier command was rejected, FELOSUMAY_NR_..; else 0 */
+    uint16_t tenths; /* if it is an ACK_TIMER, in how many tenths of a second the result is due; else 0 */
+    uint8_t type;    /* FELOSUMAY_ACK and so on; FELOSUMAY_ACK_OVERFLOW if it is a part, and more of the message follows */
+    uint8_t command_class; /* that of the response: 0x21 for a GET, 0x31 for a SET */
+    uint8_t may_repeat;    /* 1 if it was asked for again, so it may repeat the message before it; else 0 */
+    uint8_t after_loss;    /* 1 if a poll got no answer since the previous one was recorded, so something may be missing; else 0 */
+    uint8_t bytes[FELOSUMAY_VALUE_BYTES];
+} felosumay_message;
+
 typedef struct {
     uint64_t count;    /* how many bytes the reply has: at most 257 */
     uint8_t replied; /* 1 if there is a reply, else 0 */
@@ -401,8 +416,9 @@ felosumay_result felosumay_responder_arrive(felosumay_responder *responder, cons
                                             const felosumay_outcome *outcome, uint8_t *kept);
 
 /* A person changes something at the fixture's own menu. Each DONE queues a message for the controller, even if the value stays the
- * same. Only polls take messages from the queue: if no controller polls, it fills up, and each change is NO_ROOM from then on. `place`
- * needs no room. TOO_LONG for a label, then ABSENT, NO_ROOM, OUT_OF_RANGE, in this order; nothing changes then. */
+ * same. Polls take messages from the queue: if no controller polls, it fills up, and each change is NO_ROOM from then on, until the firmware
+ * drops a message (`drop_oldest`). `place` needs no room. TOO_LONG for a label, then ABSENT, NO_ROOM, OUT_OF_RANGE, in this order; nothing
+ * changes then. */
 felosumay_result felosumay_responder_change_start(felosumay_responder *responder, uint16_t start);
 felosumay_result felosumay_responder_change_personality(felosumay_responder *responder, uint8_t number);
 static inline felosumay_result felosumay_responder_change_label(felosumay_responder *responder, const uint8_t *label,
@@ -465,9 +481,40 @@ static inline felosumay_result felosumay_responder_get(const felosumay_responder
 felosumay_result felosumay_responder_own_value(const felosumay_responder *responder, uint16_t pid,
                                                uint8_t value[FELOSUMAY_VALUE_BYTES], uint64_t *count);
 
-/* How many messages wait, and how many jobs are outstanding. ABSENT. */
+/* How many messages wait, how many jobs are outstanding, and how many status entries wait to be shown. ABSENT. */
 felosumay_result felosumay_responder_waiting(const felosumay_responder *responder, uint64_t *count);
 felosumay_result felosumay_responder_outstanding(const felosumay_responder *responder, uint64_t *count);
+felosumay_result felosumay_responder_entries(const felosumay_responder *responder, uint64_t *count);
+
+/* The message with this index among those that wait, as a controller will collect it: the oldest has index 0. ABSENT; NO_MORE if no more
+ * wait; `message` stays then. */
+felosumay_result felosumay_responder_waiting_message(const felosumay_responder *responder, uint64_t index, felosumay_message *message);
+
+/* Drops the oldest message that waits: for firmware whose queue is full since no controller polls. It makes room for one more job or change,
+ * and no controller ever gets that message. What GET_LAST_MESSAGE repeats stays. ABSENT; NO_MORE if no message waits; nothing changes then. */
+felosumay_result felosumay_responder_drop_oldest(felosumay_responder *responder);
+
+/* The job that a worker is at, as `step` returned it: the oldest of its outstanding ones. Firmware that asks for it needs no list of jobs of
+ * its own. UNKNOWN if `worker` is neither 0 nor 1; ABSENT; NO_MORE if the worker is at none; `job` stays then. */
+felosumay_result felosumay_responder_working(const felosumay_responder *responder, uint8_t worker, felosumay_job *job);
+
+/* Since when each worker is at its job. It starts as {0}. Never write it; a copy goes on as the original would. */
+typedef struct {
+    uint32_t number;
+    uint32_t begun;
+    uint32_t length;
+    uint8_t there;
+} felosumay_at_job;
+
+typedef struct {
+    felosumay_at_job first, second;
+} felosumay_deadlines;
+
+/* In how many milliseconds the first estimate ends of the jobs that the workers are at: so long the firmware may sleep. 0 if it has ended.
+ * `now` is the time in milliseconds; a clock of 32 bits may go on at 0 after its greatest number. A job begins when this call first sees it:
+ * call it after each packet and each report, and once in 49 days. ABSENT; NO_MORE if no worker is at a job; `milliseconds` stays then. */
+felosumay_result felosumay_responder_next_end(const felosumay_responder *responder, felosumay_deadlines *deadlines, uint32_t now,
+                                              uint32_t *milliseconds);
 
 /* Frees what the handle holds, if anything, and sets the handle to {0}. NULL is allowed and does nothing. */
 void felosumay_responder_free(felosumay_responder *responder);
@@ -556,20 +603,6 @@ typedef struct {
     uint16_t pid;          /* FELOSUMAY_PID_.. */
     uint8_t command_class; /* FELOSUMAY_GET, FELOSUMAY_SET or FELOSUMAY_DISCOVERY */
 } felosumay_command;
-
-/* A message from the device, or a part of one (E1.20 section 10.3.1). */
-typedef struct {
-    uint64_t count; /* how many bytes of data it has: 0 to 231 */
-    uint16_t pid;    /* its parameter, FELOSUMAY_PID_.. or one of the maker's own */
-    uint16_t sub;    /* the sub-device, 1 to 512, or 0 for the root */
-    uint16_t reason; /* if it is a NACK, why an earlier command was rejected, FELOSUMAY_NR_..; else 0 */
-    uint16_t tenths; /* if it is an ACK_TIMER, in how many tenths of a second the result is due; else 0 */
-    uint8_t type;    /* FELOSUMAY_ACK and so on; FELOSUMAY_ACK_OVERFLOW if it is a part, and more of the message follows */
-    uint8_t command_class; /* that of the response: 0x21 for a GET, 0x31 for a SET */
-    uint8_t may_repeat;    /* 1 if it was asked for again, so it may repeat the message before it; else 0 */
-    uint8_t after_loss;    /* 1 if a poll got no answer since the previous one was recorded, so something may be missing; else 0 */
-    uint8_t bytes[FELOSUMAY_VALUE_BYTES];
-} felosumay_message;
 
 /* What a response says (E1.20 section 6.3). */
 typedef struct {
@@ -918,6 +951,9 @@ FELOSUMAY_ASSERT(sizeof(felosumay_stepped) == 32);
 FELOSUMAY_ASSERT(offsetof(felosumay_stepped, replied) == 8);
 FELOSUMAY_ASSERT(offsetof(felosumay_stepped, job) == 12);
 FELOSUMAY_ASSERT(sizeof(felosumay_outcome) == 10);
+FELOSUMAY_ASSERT(sizeof(felosumay_at_job) == 16);
+FELOSUMAY_ASSERT(offsetof(felosumay_at_job, there) == 12);
+FELOSUMAY_ASSERT(sizeof(felosumay_deadlines) == 32);
 FELOSUMAY_ASSERT(sizeof(felosumay_image) == 6);
 FELOSUMAY_ASSERT(offsetof(felosumay_image, there) == 4);
 FELOSUMAY_ASSERT(sizeof(felosumay_receiver) == 260);

@@ -196,6 +196,20 @@ public:
     }
     [[nodiscard]] result waiting(std::uint64_t &count) const noexcept { return felosumay_responder_waiting(get(), &count); }
     [[nodiscard]] result outstanding(std::uint64_t &count) const noexcept { return felosumay_responder_outstanding(get(), &count); }
+    [[nodiscard]] result entries(std::uint64_t &count) const noexcept { return felosumay_responder_entries(get(), &count); }
+    // A message that waits: the oldest has index 0.
+    [[nodiscard]] result waiting_message(std::uint64_t index, felosumay_message &message) const noexcept {
+        return felosumay_responder_waiting_message(get(), index, &message);
+    }
+    [[nodiscard]] result drop_oldest() noexcept { return felosumay_responder_drop_oldest(get()); }
+    // The job that a worker is at.
+    [[nodiscard]] result working(std::uint8_t worker, felosumay_job &job) const noexcept {
+        return felosumay_responder_working(get(), worker, &job);
+    }
+    // In how many milliseconds the first estimate ends of the jobs that the workers are at. `deadlines` starts as {}.
+    [[nodiscard]] result next_end(felosumay_deadlines &deadlines, std::uint32_t now, std::uint32_t &milliseconds) const noexcept {
+        return felosumay_responder_next_end(get(), &deadlines, now, &milliseconds);
+    }
 };
 
 class collector : public owner<felosumay_collector, felosumay_collector_free> {

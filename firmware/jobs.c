@@ -5,39 +5,36 @@
 
 enum { WORKERS = 2, MILLISECONDS_A_TENTH = 100 };
 
-typedef struct {
-    felosumay_job jobs[QUEUE_SIZE]; /* a responder accepts no more than it has room for */
-    uint8_t first, count;
-    uint64_t since; /* when the first job began, in milliseconds */
-} worker;
-
-static worker workers[WORKERS];
+static uint64_t since[WORKERS]; /* when each worker began the job that it is at, in milliseconds */
 static uint16_t hurry = 1;
 
 void jobs_hurry(uint16_t times) {
     hurry = times;
 }
 
+/* The library keeps the jobs: a worker that had none begins this one now. */
 void jobs_begin(const felosumay_job *job) {
-    worker *const to = &workers[job->worker];
-    if (to->count == 0)
-        to->since = board_milliseconds();
-    to->jobs[(to->first + to->count) % QUEUE_SIZE] = *job;
-    to->count++;
+    felosumay_job first;
+    if (felosumay_responder_working(&fixture, job->worker, &first) == FELOSUMAY_DONE && first.number == job->number)
+        since[job->worker] = board_milliseconds();
 }
 
-/* When the first job of a worker ends. */
-static uint64_t end_of(const worker *of) {
-    return of->since + of->jobs[of->first].estimate * MILLISECONDS_A_TENTH / hurry;
+static uint64_t end_of(const felosumay_job *job) {
+    return since[job->worker] + job->estimate * MILLISECONDS_A_TENTH / hurry;
 }
 
-/* The worker whose job has ended first, if one has by now. */
-static worker *ended(uint64_t now) {
-    worker *first = NULL;
-    for (uint8_t i = 0; i < WORKERS; i++)
-        if (workers[i].count != 0 && end_of(&workers[i]) <= now && (first == NULL || end_of(&workers[i]) < end_of(first)))
-            first = &workers[i];
-    return first;
+/* Finds the job that has ended first, if one has by now. */
+static bool has_ended(uint64_t now, felosumay_job *job) {
+    bool found = false;
+    for (uint8_t worker = 0; worker < WORKERS; worker++) {
+        felosumay_job first;
+        if (felosumay_responder_working(&fixture, worker, &first) != FELOSUMAY_DONE || end_of(&first) > now)
+            continue;
+        if (!found || end_of(&first) < end_of(job))
+            *job = first;
+        found = true;
+    }
+    return found;
 }
 
 /* What came of it: each strike of the lamp fails, and each run of the second self test; a sensor measures 25 and its number. */
@@ -58,15 +55,13 @@ static felosumay_outcome outcome_of(const felosumay_job *job) {
 /* The worker begins its next job when this one ended, not when that is reported. */
 void jobs_report(void) {
     const uint64_t now = board_milliseconds();
+    felosumay_job job;
     uint8_t kept;
-    for (worker *of = ended(now); of != NULL; of = ended(now)) {
-        const felosumay_job *const job = &of->jobs[of->first];
-        const felosumay_outcome outcome = outcome_of(job);
-        const uint64_t end = end_of(of);
-        felosumay_responder_arrive(&fixture, job, &outcome, &kept);
-        of->first = (uint8_t)((of->first + 1) % QUEUE_SIZE);
-        of->count--;
-        of->since = end;
+    while (has_ended(now, &job)) {
+        const felosumay_outcome outcome = outcome_of(&job);
+        const uint64_t end = end_of(&job);
+        felosumay_responder_arrive(&fixture, &job, &outcome, &kept);
+        since[job.worker] = end;
         values_changed();
     }
 }

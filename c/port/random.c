@@ -1,5 +1,5 @@
 /* A program of random steps, the same on each target: requests good and bad, reports of jobs, changes at the menu, values that are placed
- * and read, notes, saved images and restarts, on a fixture with sub-devices, parameters of its own, names of choices and locks. What comes
+ * and read, notes, messages that wait or are dropped, saved images and restarts, on a fixture with sub-devices, parameters of its own, names of choices and locks. What comes
  * back goes into a sum, which is printed after each tenth of the steps. STEPS says how many there are. c/port/check compares the targets. */
 #include "../felosumay.h"
 #include "../felosumay_names.h"
@@ -230,6 +230,25 @@ static void look(void) {
     add(felosumay_responder_waiting(&fixture, &count) == FELOSUMAY_DONE ? (uint32_t)count : 99);
 }
 
+/* Looks at what waits and which jobs are due, and drops the oldest message. */
+static void look_at_queue(void) {
+    static felosumay_deadlines deadlines;
+    static uint32_t now;
+    felosumay_message message;
+    felosumay_job job;
+    uint64_t count = 0;
+    uint32_t milliseconds = 0;
+    now += any(2000);
+    if (felosumay_responder_next_end(&fixture, &deadlines, now, &milliseconds) == FELOSUMAY_DONE)
+        add(milliseconds);
+    if (felosumay_responder_working(&fixture, (uint8_t)any(3), &job) == FELOSUMAY_DONE)
+        add(job.number + job.pid);
+    if (felosumay_responder_waiting_message(&fixture, any(QUEUE_SIZE), &message) == FELOSUMAY_DONE)
+        add_bytes(message.bytes, message.count);
+    add(felosumay_responder_drop_oldest(&fixture));
+    add(felosumay_responder_entries(&fixture, &count) == FELOSUMAY_DONE ? (uint32_t)count : 99);
+}
+
 /* Saves the values, makes the fixture anew, and restores them from the image, which now and then is altered or cut. */
 static void restart(void) {
     uint64_t count = 0;
@@ -254,6 +273,8 @@ int main(void) {
             change();
         if (any(16) == 0)
             look();
+        if (any(64) == 0)
+            look_at_queue();
         if (any(256) == 0)
             restart();
         if (step % (STEPS / 10) == 0)

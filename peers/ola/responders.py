@@ -316,7 +316,7 @@ def check_watched(console, devices):
     except subprocess.TimeoutExpired as expired:
         printed = (expired.stdout or b"").decode()
     told = printed.splitlines()
-    expected = [f"{device.uid} is watched" for device in devices]
+    expected = [f"watching {device.uid}" for device in devices]
     # The ack-timer responder alone has a queue.
     expected += [f"{device.uid} has no QUEUED_MESSAGE, and isn't polled" for device in devices if "Ack Timer" not in device.found]
     console.expect("what watch tells", told, expected)

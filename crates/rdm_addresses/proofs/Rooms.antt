@@ -4,7 +4,7 @@ use Rattle.std.proofs.Common.{◌≡◌, ℕ, ◌+◌, ◌<◌, ◌≤◌, List,
 use Rattle.std.proofs.lemmas.List.{append-nil, take_more}
 use Rattle.std.proofs.lemmas.List.Sums.{sum_by_more, sum_by_more_le}
 use Rattle.rdm_addresses.specs.declared.assignment.Assignment.{Assignment}
-use Rattle.rdm_addresses.specs.declared.device.Device.{Device}
+use Rattle.rdm_survey.specs.declared.device.Device.{Device}
 use Rattle.rdm_addresses.specs.Proposals.{assigned, assignments, assignments_behind, behind, last_slot, room}
 
 more_behind : (from gap : ℕ) (before list : List Device) (d : Device)

@@ -11,10 +11,10 @@ use Rattle.rdm_survey.specs.declared.place.Clash.TheVariants.{Overlap}
 use Rattle.rdm_survey.specs.declared.place.Place.{Place}
 use Rattle.rdm_survey.specs.declared.row.Row.{Row}
 use Rattle.rdm_survey.specs.declared.row.SubDevice.{SubDevice}
-use Rattle.rdm_survey.specs.Places.{clashes_of, meets, past_end, place, places, places_of, root_place, sub_place}
+use Rattle.rdm_survey.specs.declared.device.Device.{Device}
+use Rattle.rdm_survey.specs.Places.{clashes_of, device, devices, devices_of, meets, past_end, places, root_device, sub_device}
 use Rattle.rdm_addresses.specs.declared.assignment.Assignment.{Assignment}
-use Rattle.rdm_addresses.specs.declared.device.Device.{Device}
-use Rattle.rdm_addresses.specs.Proposals.{assigned, assignments, assignments_behind, behind, device, device_in, devices, devices_of, Fits, last_slot, place_after, place_before, proposal, room, root_device, sub_device}
+use Rattle.rdm_addresses.specs.Proposals.{assigned, assignments, assignments_behind, behind, device_in, Fits, last_slot, place_after, place_before, proposal, room}
 
 -- ---- who takes part
 
@@ -33,7 +33,7 @@ device_slots uid sub (Some was) footprint = by (footprint == 0) refl
     above e = grind (arith, nat_tests)
 
     by : (x : Bool) → footprint == 0 ≡ x
-        → AllByRecursion HasSlots (cond x [] (record { uid = uid; sub = sub; was = was; footprint = footprint } ∷ []))
+        → AllByRecursion HasSlots (cond x [] (record { uid = uid; sub = sub; address = was; footprint = footprint } ∷ []))
     by true e = tt
     by false e = (above e, tt)
 
@@ -53,36 +53,8 @@ have_slots (row ∷ rows) =
     (all_joined HasSlots (root_device row.uid row.device) (flat_map (sub_device row.uid) row.sub_devices.items) (root_slots row.uid row.device) (sub_slots row.uid row.sub_devices.items))
     (have_slots rows)
 
-map_joined : {X Y : Type 0} (f : X → Y) (xs ys : List X) (us vs : List Y) → map f xs ≡ us → map f ys ≡ vs → map f (xs ++ ys) ≡ us ++ vs
-map_joined f [] ys us vs p q = λ i. p i ++ q i
-map_joined {Y = Y} f (x ∷ xs) ys us vs p q =
-    ap (λ (z : List Y). f x ∷ z) (map_joined f xs ys (map f xs) vs refl q) ∙ ap (λ (z : List Y). z ++ vs) p
-
-device_place : (uid : Uid) (sub : ℕ) (address : Option ℕ) (footprint : ℕ) → map place_before (device uid sub address footprint) ≡ place uid sub address footprint
-device_place uid sub None footprint = refl
-device_place uid sub (Some was) footprint = by (footprint == 0)
-  where
-    by : (x : Bool)
-        → map place_before (cond x [] (record { uid = uid; sub = sub; was = was; footprint = footprint } ∷ []))
-        ≡ cond x [] (record { uid = uid; sub = sub; first = was; last = was + footprint - 1 } ∷ [])
-    by true = refl
-    by false = refl
-
-root_places : (uid : Uid) (root : Option DeviceInfo) → map place_before (root_device uid root) ≡ root_place uid root
-root_places uid None = refl
-root_places uid (Some d) = device_place uid 0 d.address d.footprint
-
-sub_places : (uid : Uid) (subs : List SubDevice) → map place_before (flat_map (sub_device uid) subs) ≡ flat_map (sub_place uid) subs
-sub_places uid [] = refl
-sub_places uid (s ∷ subs) =
-    map_joined place_before (sub_device uid s) (flat_map (sub_device uid) subs) _ _ (device_place uid s.number s.address s.footprint) (sub_places uid subs)
-
 pub same_places : (rows : List Row) → map place_before (devices rows) ≡ places rows
-same_places [] = refl
-same_places (row ∷ rows) =
-    map_joined place_before (devices_of row) (devices rows) (places_of row) (places rows)
-    (map_joined place_before (root_device row.uid row.device) (flat_map (sub_device row.uid) row.sub_devices.items) _ _ (root_places row.uid row.device) (sub_places row.uid row.sub_devices.items))
-    (same_places rows)
+same_places rows = refl
 
 same_behind : (from gap : ℕ) (before list : List Device) → map device_in (assignments_behind from gap before list) ≡ list
 same_behind from gap before [] = refl

@@ -1,36 +1,12 @@
 -- Start addresses one behind the other, so that no two devices share a slot. E1.20 sections 9, 10.5.1 and 10.6.3.
 use Rattle.std.specs.Prelude.{◌≡◌, ℕ, ◌+◌, ◌-◌, ◌<◌, ◌≤◌, ◌==◌, min, List, [], ◌∷◌, ◌++◌, sum_by, Option, Some, None, if◌then◌else◌, ⊤}
-use Rattle.std.specs.List.{flat_map}
-use Rattle.rdm_frame.specs.declared.uid.Uid.{Uid}
-use Rattle.rdm_survey.specs.declared.device_info.DeviceInfo.{DeviceInfo}
+use Rattle.rdm_survey.specs.declared.device.Device.{Device}
 use Rattle.rdm_survey.specs.declared.row.Row.{Row}
-use Rattle.rdm_survey.specs.declared.row.SubDevice.{SubDevice}
 use Rattle.rdm_survey.specs.declared.place.Place.{Place}
+use Rattle.rdm_survey.specs.Places.{devices, place_of}
 use Rattle.rdm_addresses.specs.declared.assignment.Assignment.{Assignment}
-use Rattle.rdm_addresses.specs.declared.device.Device.{Device}
 use Rattle.rdm_addresses.specs.declared.proposing.ProposalError.{ProposalError}
 use Rattle.rdm_addresses.specs.declared.proposing.ProposalError.TheVariants as error
-
--- A device takes part if it has a start address and takes slots.
-abbrev pub device : Uid → ℕ → Option ℕ → ℕ → List Device
-device uid sub None footprint = []
-device uid sub (Some was) footprint =
-    if footprint == 0 then [] else record { uid = uid; sub = sub; was = was; footprint = footprint } ∷ []
-
-abbrev pub root_device : Uid → Option DeviceInfo → List Device
-root_device uid None = []
-root_device uid (Some root) = device uid 0 root.address root.footprint
-
-abbrev pub sub_device : Uid → SubDevice → List Device
-sub_device uid sub = device uid sub.number sub.address sub.footprint
-
--- the devices of a fixture: its root, and its sub-devices
-abbrev pub devices_of : Row → List Device
-devices_of row = root_device row.uid row.device ++ flat_map (sub_device row.uid) row.sub_devices.items
-
--- Those that take part, in order.
-abbrev pub devices : List Row → List Device
-devices rows = flat_map devices_of rows
 
 -- the slots of a device, and the gap behind them
 abbrev pub room : ℕ → Device → ℕ
@@ -41,7 +17,7 @@ abbrev pub behind : ℕ → ℕ → List Device → ℕ
 behind from gap before = from + sum_by (room gap) before
 
 abbrev pub assigned : Device → ℕ → Assignment
-assigned d address = record { uid = d.uid; sub = d.sub; was = d.was; address = address; footprint = d.footprint }
+assigned d address = record { uid = d.uid; sub = d.sub; was = d.address; address = address; footprint = d.footprint }
 
 -- Each device has the start address behind all those before it, of which the first ones are told apart.
 abbrev pub assignments_behind : ℕ → ℕ → List Device → List Device → List Assignment
@@ -77,11 +53,11 @@ IsReason (error.NoRoom last) from gap list = (1 ≤ from) × (512 < last_slot fr
 
 -- the slots of a device before and after
 abbrev pub place_before : Device → Place
-place_before d = record { uid = d.uid; sub = d.sub; first = d.was; last = d.was + d.footprint - 1 }
+place_before d = place_of d
 
 abbrev pub place_after : Assignment → Place
 place_after a = record { uid = a.uid; sub = a.sub; first = a.address; last = a.address + a.footprint - 1 }
 
 -- the device that an assignment is for
 abbrev pub device_in : Assignment → Device
-device_in a = record { uid = a.uid; sub = a.sub; was = a.was; footprint = a.footprint }
+device_in a = record { uid = a.uid; sub = a.sub; address = a.was; footprint = a.footprint }

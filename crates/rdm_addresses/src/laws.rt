@@ -2,10 +2,10 @@
 
 ghost use Rattle.std.specs.Prelude.{◌≡◌, ◌≤◌, ◌++◌, ◌∷◌, [], ℕ, List, map, option_map, slice_get, take};
 ghost use Rattle.std.specs.List.{AllByRecursion};
-ghost use Rattle.rdm_survey.specs.Places.{clashes_of, places};
+ghost use Rattle.rdm_survey.specs.Places.{clashes_of, devices, places};
 ghost use Rattle.rdm_survey.specs.declared.row.Row.{Row};
-ghost use Rattle.rdm_addresses.specs.Proposals.{assigned, assignments, behind, device_in, devices, Fits, last_slot, place_after, place_before, proposal};
-ghost use Rattle.rdm_addresses.specs.declared.device.Device.{Device};
+ghost use Rattle.rdm_addresses.specs.Proposals.{assigned, assignments, behind, device_in, Fits, last_slot, place_after, place_before, proposal};
+ghost use Rattle.rdm_survey.specs.declared.device.Device.{Device};
 
 /// Slots that are proposed don't clash: no two devices have one in common, and none goes past 512.
 #[tactic(auto, using(crate::proofs::Separate::no_clashes))]

@@ -4,7 +4,6 @@
 #![tactic(auto)]
 
 mod assignment;
-mod device;
 mod laws;
 mod lines;
 mod proposing;

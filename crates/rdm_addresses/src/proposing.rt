@@ -1,12 +1,12 @@
 //! Start addresses one behind the other.
 
 ghost use Rattle.std.specs.Prelude.{◌≡◌, ◌≤◌, ◌-◌, ◌^◌, min, IfErr, IfOk, OnOk};
+ghost use Rattle.rdm_survey.specs.Places.{devices};
 ghost use Rattle.rdm_addresses.specs.declared.proposing.ProposalError.TheVariants.{OutOfMemory};
-ghost use Rattle.rdm_addresses.specs.Proposals.{assignments, behind, devices, Fits, greatest, IsReason, last_slot, proposal};
+ghost use Rattle.rdm_addresses.specs.Proposals.{assignments, behind, Fits, greatest, IsReason, last_slot, proposal};
 
 use crate::Assignment;
-use crate::device::{Device, devices};
-use rdm_survey::Row;
+use rdm_survey::{Device, Row, devices};
 use std::alloc::{AllocError, AllocFailed, Global};
 use thiserror::Error;
 
@@ -111,7 +111,7 @@ fn assignments(
         list.push(Assignment {
             uid: device.uid,
             sub: device.sub,
-            was: device.was,
+            was: device.address,
             address: next as u16,
             footprint: device.footprint,
         })?;

@@ -65,10 +65,16 @@ fn read_uids(word: &str) -> Result<Uids, Fault> {
 
 /// Reads a number of devices.
 fn read_count(word: &str) -> Result<u16, Fault> {
-    word.parse::<u16>().map_err(|_| Fault::Usage)
+    match word.parse::<u16>() {
+        Ok(count) => Ok(count),
+        Err(_) => Err(Fault::Usage),
+    }
 }
 
 /// Reads a number of rounds or of jobs.
 fn read_number(word: &str) -> Result<u32, Fault> {
-    word.parse::<u32>().map_err(|_| Fault::Usage)
+    match word.parse::<u32>() {
+        Ok(number) => Ok(number),
+        Err(_) => Err(Fault::Usage),
+    }
 }

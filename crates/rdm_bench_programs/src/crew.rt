@@ -12,7 +12,7 @@ mod played;
 mod setup;
 
 pub(crate) use fault::CrewFault;
-use plan::{Plan, WAYS, Way};
+use plan::{BY_ONE, Plan, WAYS, Way};
 use played::{Played, by_one_thread, by_slow_workers, by_workers};
 use std::alloc::Global;
 use std::io::Print;
@@ -31,13 +31,25 @@ pub(crate) fn show<R>(rt: R, alloc: Global) -> Result<(), CrewFault>
 where
     R: Print + Threads + Wait + Copy + Send + 'static,
 {
-    for way in &WAYS {
+    for way in WAYS {
         let plan = Plan::of(alloc, FEW, way)?;
-        let played = by_workers(rt, alloc, &plan)?;
-        println!(rt; "{}, workers: {played}", way.name)?;
-        let played = by_one_thread(alloc, &plan)?;
-        println!(rt; "{}, one thread: {played}", way.name)?;
+        show_way(rt, alloc, way, &plan)?;
     }
+    Ok(())
+}
+
+/// Prints what there is after a plan was played.
+fn show_way<R>(rt: R, alloc: Global, way: &Way, plan: &Plan) -> Result<(), CrewFault>
+where
+    R: Print + Threads + Wait + Copy + Send + 'static,
+{
+    tell(rt, way, "workers", by_workers(rt, alloc, plan)?)?;
+    tell(rt, way, "one thread", by_one_thread(alloc, plan)?)
+}
+
+/// Prints what there is, and who played it.
+fn tell<R: Print + Copy>(rt: R, way: &Way, who: &str, played: Played) -> Result<(), CrewFault> {
+    println!(rt; "{}, {who}: {played}", way.name)?;
     Ok(())
 }
 
@@ -47,11 +59,20 @@ pub(crate) fn time<R>(rt: R, alloc: Global, rounds: u32) -> Result<(), CrewFault
 where
     R: Print + Clock + Threads + Wait + Copy + Send + 'static,
 {
-    for way in &WAYS {
+    for way in WAYS {
         let plan = Plan::of(alloc, MANY, way)?;
-        for _ in 0..rounds {
-            time_round(rt, alloc, way, &plan)?;
-        }
+        time_way(rt, alloc, rounds, way, &plan)?;
+    }
+    Ok(())
+}
+
+/// The same for one way.
+fn time_way<R>(rt: R, alloc: Global, rounds: u32, way: &Way, plan: &Plan) -> Result<(), CrewFault>
+where
+    R: Print + Clock + Threads + Wait + Copy + Send + 'static,
+{
+    for _ in 0..rounds {
+        time_round(rt, alloc, way, plan)?;
     }
     Ok(())
 }
@@ -63,12 +84,22 @@ where
 {
     let start = Instant::now(&rt)?;
     let played = by_workers(rt, alloc, plan)?;
-    let (each, a_second) = speed(start.elapsed(&rt)?, played)?;
-    println!(rt; "{}, workers: {each} {a_second}", way.name)?;
+    tell_speed(rt, way, "workers", start.elapsed(&rt)?, played)?;
     let start = Instant::now(&rt)?;
     let played = by_one_thread(alloc, plan)?;
-    let (each, a_second) = speed(start.elapsed(&rt)?, played)?;
-    println!(rt; "{}, one thread: {each} {a_second}", way.name)?;
+    tell_speed(rt, way, "one thread", start.elapsed(&rt)?, played)
+}
+
+/// Prints how fast a plan was played, and who did so.
+fn tell_speed<R: Print + Copy>(
+    rt: R,
+    way: &Way,
+    who: &str,
+    time: Duration,
+    played: Played,
+) -> Result<(), CrewFault> {
+    let (each, a_second) = speed(time, played)?;
+    println!(rt; "{}, {who}: {each} {a_second}", way.name)?;
     Ok(())
 }
 
@@ -77,10 +108,19 @@ pub(crate) fn time_slow<R>(rt: R, alloc: Global, jobs: u32) -> Result<(), CrewFa
 where
     R: Print + Clock + Threads + Wait + Copy + Send + 'static,
 {
-    let plan = Plan::of(alloc, jobs, &WAYS[0])?;
+    let plan = Plan::of(alloc, jobs, &BY_ONE)?;
     let start = Instant::now(&rt)?;
     let played = by_slow_workers(rt, alloc, &plan)?;
-    let time = start.elapsed(&rt)?;
+    tell_slow(rt, jobs, start.elapsed(&rt)?, played)
+}
+
+/// Prints how long slow jobs took.
+fn tell_slow<R: Print + Copy>(
+    rt: R,
+    jobs: u32,
+    time: Duration,
+    played: Played,
+) -> Result<(), CrewFault> {
     if !played.is_whole(jobs) {
         return Err(CrewFault::Lost);
     }

@@ -31,9 +31,14 @@ where
     R: Print + Threads + Wait + Copy + Send + 'static,
 {
     let came = through_a_lane(rt, alloc, FEW).ok_or(LaneFault::Refused)?;
-    println!(rt; "lane: {came} items came")?;
+    tell(rt, "lane", came)?;
     let came = through_a_queue(rt, alloc, FEW).ok_or(LaneFault::Refused)?;
-    println!(rt; "queue: {came} items came")?;
+    tell(rt, "queue", came)
+}
+
+/// Prints how many items came, and through what.
+fn tell<R: Print + Copy>(rt: R, through: &str, came: u64) -> Result<(), LaneFault> {
+    println!(rt; "{through}: {came} items came")?;
     Ok(())
 }
 
@@ -43,15 +48,33 @@ where
     R: Print + Clock + Threads + Wait + Copy + Send + 'static,
 {
     for _ in 0..rounds {
-        let start = Instant::now(&rt)?;
-        let came = through_a_lane(rt, alloc, MANY).ok_or(LaneFault::Refused)?;
-        let (each, a_second) = speed(came, start.elapsed(&rt)?)?;
-        println!(rt; "lane {each} {a_second}")?;
-        let start = Instant::now(&rt)?;
-        let came = through_a_queue(rt, alloc, MANY).ok_or(LaneFault::Refused)?;
-        let (each, a_second) = speed(came, start.elapsed(&rt)?)?;
-        println!(rt; "queue {each} {a_second}")?;
+        time_round(rt, alloc)?;
     }
+    Ok(())
+}
+
+/// The same for one round.
+fn time_round<R>(rt: R, alloc: Global) -> Result<(), LaneFault>
+where
+    R: Print + Clock + Threads + Wait + Copy + Send + 'static,
+{
+    let start = Instant::now(&rt)?;
+    let came = through_a_lane(rt, alloc, MANY).ok_or(LaneFault::Refused)?;
+    tell_speed(rt, "lane", came, start.elapsed(&rt)?)?;
+    let start = Instant::now(&rt)?;
+    let came = through_a_queue(rt, alloc, MANY).ok_or(LaneFault::Refused)?;
+    tell_speed(rt, "queue", came, start.elapsed(&rt)?)
+}
+
+/// Prints how fast items came, and through what.
+fn tell_speed<R: Print + Copy>(
+    rt: R,
+    through: &str,
+    came: u64,
+    time: Duration,
+) -> Result<(), LaneFault> {
+    let (each, a_second) = speed(came, time)?;
+    println!(rt; "{through} {each} {a_second}")?;
     Ok(())
 }
 

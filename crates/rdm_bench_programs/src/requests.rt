@@ -68,7 +68,9 @@ fn line(alloc: Global, devices: u16, uids: Uids) -> Result<Line<Responder>, Faul
     let mut line = Line::new(alloc, Collision::First);
     for device in 0..devices {
         let responder = responder(alloc, uid_of(device, uids))?;
-        line.join(responder).map_err(|_| Fault::Refused)?;
+        if line.join(responder).is_err() {
+            return Err(Fault::Refused);
+        }
     }
     Ok(line)
 }

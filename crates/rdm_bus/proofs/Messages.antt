@@ -35,7 +35,7 @@ abbrev waits : Queue → List Message
 waits q = drop q.given q.arrived
 
 waiting_is : (s : Start) → waiting_at s ≡ waits (queue_of s.history)
-waiting_is s = sym (drop-map carried (outbox_of s.history).given (outbox_of s.history).arrived)
+waiting_is s = sym (drop-map carried (outbox_of s.history).gone (outbox_of s.history).arrived)
 
 -- What was given from one queue to another, followed by what waits then, is what waited, followed by what entered.
 abbrev Keeps : Queue → Queue → List Message → List Message → Type 0

@@ -114,6 +114,7 @@ event_next a (history.Changed change) = tt
 event_next a (history.Placed sub pid bytes) = tt
 event_next a (history.Noted entry) = tt
 event_next a (history.Restored image) = tt
+event_next a history.Dropped = tt
 
 -- ---- every history
 
@@ -195,6 +196,8 @@ ends_events w a (history.Noted entry ∷ es) lawful within =
     ends_events w (account_after a (history.Noted entry)) es lawful.1 (accepts w _ _ _ (event_grows a (history.Noted entry)) within).within
 ends_events w a (history.Restored image ∷ es) lawful within =
     ends_events w (account_after a (history.Restored image)) es lawful.1 (accepts w _ _ _ (event_grows a (history.Restored image)) within).within
+ends_events w a (history.Dropped ∷ es) lawful within =
+    ends_events w (account_after a history.Dropped) es lawful.1 (accepts w _ _ _ (event_grows a history.Dropped) within).within
 
 pub ends_within : (h : History) (w : ℕ) → IsLawful h → EndsWithin w (outbox_of h)
 unfolding account_of

@@ -30,7 +30,7 @@ use Rattle.rdm_params.specs.Jobs.Commit.{committed}
 use Rattle.rdm_outbox.specs.Account as outbox
 use Rattle.rdm_outbox.specs.declared.job.Job.{Job}
 use Rattle.rdm_outbox.specs.Jobs.{has_room, next_job, after_arrive}
-use Rattle.rdm_outbox.specs.Messages.{is_last, last_or, last_of, next_of, after_next, after_post, dispensed, after_dispense}
+use Rattle.rdm_outbox.specs.Messages.{is_last, last_or, last_of, next_of, after_next, after_post, after_drop, dispensed, after_dispense}
 use Rattle.rdm_outbox.specs.Statuses.{status_message, status_now, can_note}
 use Rattle.rdm_responder.specs.declared.report.Report.{Report}
 use Rattle.rdm_responder.specs.declared.report.Arrival.{Arrival}
@@ -49,12 +49,12 @@ use Rattle.rdm_collector.specs.Requests as requests
 
 -- the queue of an account
 abbrev pub queue_at : outbox.Account → polling.Queue
-queue_at b = record { arrived = map carried b.arrived; given = b.given; last = carried (last_of b) }
+queue_at b = record { arrived = map carried b.arrived; given = b.gone; last = carried (last_of b) }
 
 -- Nothing arrived, nothing was given and nothing answered.
 pub record IsStill (b b' : outbox.Account) : Type 0 where
   pub arrived : b'.arrived ≡ b.arrived
-  pub given : b'.given ≡ b.given
+  pub given : b'.gone ≡ b.gone
   pub answers : b'.answers ≡ b.answers
 
 still : (b : outbox.Account) → IsStill b b
@@ -67,7 +67,7 @@ queue_is : (a a' : List Message) (n n' : ℕ) (m m' : List Message) → a' ≡ a
 queue_is a a' n n' m m' e1 e2 e3 = rw (e1, e2, e3) refl
 
 pub queue_still : (b b' : outbox.Account) → IsStill b b' → queue_at b' ≡ queue_at b
-queue_still b b' s = queue_is b.arrived b'.arrived b.given b'.given b.answers b'.answers s.arrived s.given s.answers
+queue_still b b' s = queue_is b.arrived b'.arrived b.gone b'.gone b.answers b'.answers s.arrived s.given s.answers
 
 -- ---- what fetches nothing
 
@@ -111,10 +111,10 @@ command_still queues statuses sets a own f q s =
     (verdict_still a.outbox (got a.parameters f.sub f.pid f.body) (λ ask e. q (queues a.parameters f.sub f.pid f.body ask e).0) (λ ask e. s (statuses a.parameters f.sub f.pid f.body ask e)))
     (verdict_still a.outbox (answer_to_set a.parameters f.sub f.pid f.body) (λ ask e. (sets a.parameters f.sub f.pid f.body ask).0 e) (λ ask e. (sets a.parameters f.sub f.pid f.body ask).1 e))
 
--- ---- what no history brings about: that more were given than arrived
+-- ---- what no history brings about: that more have left the queue than arrived
 
 abbrev IsWithin : outbox.Account → Type 0
-IsWithin b = b.given ≤ length b.arrived
+IsWithin b = b.gone ≤ length b.arrived
 
 within_still : (b b' : outbox.Account) → IsStill b b' → IsWithin b → IsWithin b'
 within_still b b' s w = rw (s.arrived, s.given) w
@@ -128,7 +128,10 @@ within_if true b b' w w' = w refl
 within_if false b b' w w' = w'
 
 within_next : (b : outbox.Account) (ask : Ask) → IsWithin b → IsWithin (after_next b ask)
-within_next b ask w = within_if (nat_lt b.given (length b.arrived)) _ _ (λ lt. let less : b.given < length b.arrived = ltb-true _ _ lt in omega arith) w
+within_next b ask w = within_if (nat_lt b.gone (length b.arrived)) _ _ (λ lt. let less : b.gone < length b.arrived = ltb-true _ _ lt in omega arith) w
+
+within_drop : (b : outbox.Account) → IsWithin b → IsWithin (after_drop b)
+within_drop b w = within_if (nat_lt b.gone (length b.arrived)) _ _ (λ lt. let less : b.gone < length b.arrived = ltb-true _ _ lt in omega arith) w
 
 within_verdict : (b : outbox.Account) (v : Verdict) → IsWithin b → IsWithin (outbox_after b v)
 within_verdict b (Reply bytes) w = w
@@ -173,12 +176,13 @@ within_event a (history.Changed change) w = within_message a.outbox (change_mess
 within_event a (history.Placed sub pid bytes) w = w
 within_event a (history.Noted entry) w = within_still _ _ (entry_still a.parameters a.outbox entry) w
 within_event a (history.Restored image) w = w
+within_event a history.Dropped w = within_drop a.outbox w
 
 within_events : (a : Account) (es : List Event) → IsWithin a.outbox → IsWithin (fold account_after a es).outbox
 within_events a [] w = w
 within_events a (e ∷ es) w = within_events (account_after a e) es (within_event a e w)
 
-pub within : (h : History) → (outbox_of h).given ≤ length (outbox_of h).arrived
+pub within : (h : History) → (outbox_of h).gone ≤ length (outbox_of h).arrived
 unfolding account_of
 within h = within_events (account_before h.setup) h.events (omega arith)
 
@@ -197,9 +201,9 @@ heard_nothing h bytes none = heard_as h bytes None none
 pub heard_frame : (h : History) (bytes : List ℕ) (f : Frame) → frame_in bytes ≡ Some f → queue_of (then_event h (history.Heard bytes)) ≡ queue_at (account_with (account_of h) (request_of (account_of h).setup.uid f)).outbox
 heard_frame h bytes f is = heard_as h bytes (Some f) is
 
-arrived_is : (b b' : outbox.Account) (m : Message) → b'.arrived ≡ b.arrived ++ m ∷ [] → b'.given ≡ b.given → b'.answers ≡ b.answers → queue_at b' ≡ record (queue_at b) { arrived = map carried b.arrived ++ carried m ∷ [] }
+arrived_is : (b b' : outbox.Account) (m : Message) → b'.arrived ≡ b.arrived ++ m ∷ [] → b'.gone ≡ b.gone → b'.answers ≡ b.answers → queue_at b' ≡ record (queue_at b) { arrived = map carried b.arrived ++ carried m ∷ [] }
 arrived_is b b' m e1 e2 e3 =
-    queue_is (b.arrived ++ m ∷ []) b'.arrived b.given b'.given b.answers b'.answers e1 e2 e3
+    queue_is (b.arrived ++ m ∷ []) b'.arrived b.gone b'.gone b.answers b'.answers e1 e2 e3
     ∙ ap (λ (ms : List Message). record (queue_at b) { arrived = ms }) (map-append carried b.arrived (m ∷ []))
 
 report_still : (a : Account) (r : Report) → IsStill (after_arrive a.outbox (worker_at a.outbox.workers r.job.work) (committed a.parameters r.job.work r.outcome)) (account_after a (history.Arrived r)).outbox
@@ -209,7 +213,7 @@ pub report_arrived : (h : History) (r : Report) (arrival : Arrival) → IsArriva
 report_arrived h r arrival is =
     let same = report_still (account_of h) r in
     arrived_is (outbox_of h) (outbox_of (then_event h (history.Arrived r))) arrival.message is.message
-    (ap (λ (a : Account). a.outbox.given) (account_of-then h (history.Arrived r)) ∙ same.given)
+    (ap (λ (a : Account). a.outbox.gone) (account_of-then h (history.Arrived r)) ∙ same.given)
     (ap (λ (a : Account). a.outbox.answers) (account_of-then h (history.Arrived r)) ∙ same.answers)
 
 one_is : (m n : Message) → m ∷ [] ≡ n ∷ [] → m ≡ n
@@ -291,21 +295,21 @@ last_or_push m x (y ∷ xs) = last_or_push y x xs
 parts : (ms : List Message) (n n' : ℕ) (m m' : Message) → n ≡ n' → m ≡ m' → queue ms n (carried m) ≡ queue ms n' (carried m')
 parts ms n n' m m' e1 e2 = rw (e1, e2) refl
 
-after_next_is : (b : outbox.Account) (ask : Ask) (c : Bool) → nat_lt b.given (length b.arrived) ≡ c → IsWithin b → queue_at (after_next b ask) ≡ record (queue_at b) { given = min (b.given + 1) (length (map carried b.arrived)); last = carried (next_of b ask) }
+after_next_is : (b : outbox.Account) (ask : Ask) (c : Bool) → nat_lt b.gone (length b.arrived) ≡ c → IsWithin b → queue_at (after_next b ask) ≡ record (queue_at b) { given = min (b.gone + 1) (length (map carried b.arrived)); last = carried (next_of b ask) }
 after_next_is b ask true e w =
-    let lt : b.given < length b.arrived = ltb-true _ _ e in
+    let lt : b.gone < length b.arrived = ltb-true _ _ e in
     ap queue_at (cond-true _ _ _ e)
     ∙ parts (map carried b.arrived) _ _ _ _ (omega (arith, length-map b.arrived carried)) (last_or_push (status_message []) (next_of b ask) b.answers)
 after_next_is b ask false e w =
-    let ge : length b.arrived ≤ b.given = ltb-false _ _ e in
-    let status : next_of b ask ≡ status_now b ask = ap (λ (o : Option Message). unwrap_or o (status_now b ask)) (slice_get_past b.arrived b.given ge) in
+    let ge : length b.arrived ≤ b.gone = ltb-false _ _ e in
+    let status : next_of b ask ≡ status_now b ask = ap (λ (o : Option Message). unwrap_or o (status_now b ask)) (slice_get_past b.arrived b.gone ge) in
     ap queue_at (cond-false _ _ _ e)
     ∙ parts (map carried b.arrived) _ _ _ _ (omega (arith, w, length-map b.arrived carried)) (last_or_push (status_message []) (status_now b ask) b.answers ∙ sym status)
 
 -- the reply to a poll, and the queue after it
 pub polled : (b : outbox.Account) (again : Bool) (ask : Ask) (heard : Bool) → is_last ask ≡ again → IsWithin b → IsReply (queue_at b) again (Some (carried (dispensed b ask))) heard × (queue_at (after_dispense b ask) ≡ polling.after (queue_at b) (Polled again (Some (carried (dispensed b ask))) heard))
 polled b true ask heard e w = (rw e refl, rw e refl)
-polled b false ask heard e w = (rw e (is_next b.arrived b.given (slice_get b.arrived b.given) _ refl), rw e (after_next_is b ask _ refl w))
+polled b false ask heard e w = (rw e (is_next b.arrived b.gone (slice_get b.arrived b.gone) _ refl), rw e (after_next_is b ask _ refl w))
 
 -- What becomes of a poll: it isn't for the device, and nothing comes of it; or it has the reply of the queue, an ACK.
 pub data Poll (a : Account) (own : Uid) (f : Frame) (ask : Ask) : Type 0 where

@@ -51,7 +51,7 @@ carried m = record m { pid = m.pid % 65536; sub = m.sub % 65536 }
 -- The device's queue: the messages that arrived in it, how many of them were given, and its last answer.
 abbrev pub queue_of : History → Queue
 queue_of h =
-    record { arrived = map carried (outbox_of h).arrived; given = (outbox_of h).given; last = carried (last_of (outbox_of h)) }
+    record { arrived = map carried (outbox_of h).arrived; given = (outbox_of h).gone; last = carried (last_of (outbox_of h)) }
 
 -- Both laws, of these events after this start. G is what left the queue between the two.
 pub record BusLaws (start : Start) (events : List Event) : Type 0 where

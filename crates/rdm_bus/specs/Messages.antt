@@ -22,9 +22,9 @@ enters_by (Changed change (Some message)) = carried message ∷ []
 abbrev pub waiting_at : Start → List Message
 waiting_at s = map carried (waiting_of (outbox_of s.history))
 
--- whether the device gives a message from its queue in an event: it has given one more afterwards
+-- whether the device gives a message from its queue in an event: one more has left the queue afterwards, and on the bus nobody drops any
 abbrev pub gives : Start → Event → Bool
-gives s event = nat_lt (outbox_of s.history).given (outbox_of (after s event).history).given
+gives s event = nat_lt (outbox_of s.history).gone (outbox_of (after s event).history).gone
 
 -- the message that is given then, as the reply carries it
 abbrev pub given_by : Start → Event → List Message

@@ -13,6 +13,7 @@ pub mod Events
 pub mod Memory
 pub mod Images
 pub mod Messages
+pub mod Queues
 pub mod SearchStates
 pub mod Searches
 pub mod Names

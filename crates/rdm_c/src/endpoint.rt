@@ -2,6 +2,7 @@
 
 pub(crate) mod collector;
 pub(crate) mod firmware;
+pub(crate) mod queue;
 pub(crate) mod responder;
 pub(crate) mod saving;
 pub(crate) mod search;

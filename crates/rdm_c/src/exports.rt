@@ -8,6 +8,7 @@ pub(crate) mod images;
 pub(crate) mod memory;
 pub(crate) mod names;
 pub(crate) mod profile;
+pub(crate) mod queue;
 pub(crate) mod reading;
 pub(crate) mod receiver;
 pub(crate) mod reply;

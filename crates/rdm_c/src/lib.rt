@@ -49,6 +49,10 @@ pub use exports::names::{
     felosumay_tell_parameter, felosumay_tell_reason, felosumay_tell_status, felosumay_tell_version,
 };
 pub use exports::profile::felosumay_profile_fault_nonnull;
+pub use exports::queue::{
+    felosumay_responder_drop_oldest, felosumay_responder_entries, felosumay_responder_next_end,
+    felosumay_responder_waiting_message, felosumay_responder_working,
+};
 pub use exports::reading::{
     felosumay_responder_get_nonnull, felosumay_responder_outstanding,
     felosumay_responder_own_value, felosumay_responder_room, felosumay_responder_waiting,

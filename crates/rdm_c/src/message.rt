@@ -2,14 +2,16 @@
 
 ghost use Rattle.std.specs.Prelude.{◌≡◌, ◌≤◌, take};
 ghost use Rattle.rdm_c.specs.Messages.{Tells, action_in, command_in, heard_numbers, heard_with, want_in};
+ghost use Rattle.rdm_c.specs.Queues.{as_collected};
 
 use crate::front::write_front;
 use crate::reply::numbers_of;
-use rdm_collector::{Action, Collected, Command, DeviceHeard, Want};
+use rdm_collector::{Action, Collected, Command, DeviceHeard, Response, Want};
 use rdm_frame::standard::{
     ADVISORY, DISCOVERY_COMMAND, ERROR, GET_COMMAND, MOST_DATA, SET_COMMAND, WARNING,
 };
 use rdm_frame::{Load, Uid};
+use rdm_params::Message;
 
 /// The most bytes of data that are read of a command.
 const MOST_READ: usize = 255;
@@ -121,13 +123,33 @@ impl MessageNumbers {
     pub(crate) fn tell(&mut self, collected: &Collected)
         ensures { Tells self.new collected.now }
     {
-        self.count = write_front(collected.message.body.as_slice(), &mut self.bytes);
-        self.pid = collected.message.pid;
-        self.sub = collected.message.sub;
-        self.command_class = collected.message.class;
-        self.may_repeat = if collected.again { 1 } else { 0 };
-        self.after_loss = if collected.after_loss { 1 } else { 0 };
-        let (kind, reason, tenths) = numbers_of(collected.response);
+        let loss = collected.after_loss;
+        self.tell_message(
+            &collected.message,
+            collected.response,
+            collected.again,
+            loss,
+        );
+    }
+
+    /// Tells of a message that waits at a responder, as a controller will collect it.
+    pub(crate) fn tell_waiting(&mut self, message: &Message)
+        ensures { Tells self.new (as_collected message.now) }
+    {
+        self.tell_message(message, Response::Ack, false, false);
+    }
+
+    /// Tells of a message, of its response type, and of how it was asked for.
+    fn tell_message(&mut self, message: &Message, response: Response, again: bool, after_loss: bool)
+        ensures { Tells self.new (record { response = response; message = message.now; again = again; after_loss = after_loss }) }
+    {
+        self.count = write_front(message.body.as_slice(), &mut self.bytes);
+        self.pid = message.pid;
+        self.sub = message.sub;
+        self.command_class = message.class;
+        self.may_repeat = if again { 1 } else { 0 };
+        self.after_loss = if after_loss { 1 } else { 0 };
+        let (kind, reason, tenths) = numbers_of(response);
         self.kind = kind;
         self.reason = reason;
         self.tenths = tenths;

@@ -14,6 +14,7 @@ use crate::profile::{
     StatusTextNumbers, TextNumbers, UnitNumbers,
 };
 use crate::reply::ReplyNumbers;
+use rdm_deadlines::Deadlines;
 use rdm_receiver::Receiver;
 use std::mem::size_of;
 
@@ -68,3 +69,5 @@ const _: () = prove!(size_of::<ReplyNumbers>() == 256);
 const _: () = prove!(size_of::<Receiver>() == 260);
 
 const _: () = prove!(size_of::<ImageNumbers>() == 6);
+
+const _: () = prove!(size_of::<Deadlines>() == 32);

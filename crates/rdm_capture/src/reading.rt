@@ -14,7 +14,7 @@ use thiserror::Error;
 
 /// Where a capture makes no sense: no whole block or packet stands there, or what stands there contradicts itself.
 #[derive(Clone, Copy, Debug, PartialEq, Eq, Error)]
-#[error("this is no capture from byte {at} on")]
+#[error("this isn't a valid capture from byte {at} on")]
 pub struct CaptureFault {
     /// The byte, counted from 0.
     pub at: usize,

@@ -5,12 +5,13 @@ use Rattle.std.proofs.Math.Utf8.{encode}
 use Rattle.rdm_chart.specs.declared.element.Attribute.{Attribute}
 use Rattle.rdm_chart.specs.declared.element.Element.{Element}
 use Rattle.rdm_chart.specs.declared.element.Tag.{Tag}
-use Rattle.rdm_chart.specs.Markup.{in_markup}
+use Rattle.rdm_markup.specs.declared.escaping.Place.TheVariants.{Content}
+use Rattle.rdm_markup.specs.Markup.{in_markup}
 use Rattle.rdm_chart.specs.Elements.{are_once, tag_front, tag_rest, end_tag, escaped, element_text}
 use Rattle.rdm_chart.specs.Pictures.{IsContent, Nothing, Words, Element as Whole, Empty}
 
 -- a line end stands in markup as it is
-line_end : flat_map in_markup (10 ∷ []) ≡ codes "\n"
+line_end : flat_map (in_markup Content) (10 ∷ []) ≡ codes "\n"
 unfolding in_markup encode
 line_end = refl
 

@@ -8,7 +8,7 @@ use Rattle.rdm_chart.specs.declared.element.Element.{Element}
 use Rattle.rdm_chart.specs.declared.element.Key.TheVariants.{Class, Way}
 use Rattle.rdm_chart.specs.declared.element.Tag.TheVariants.{Svg, Path}
 use Rattle.rdm_chart.specs.Drawings.{kinds_of_shafts}
-use Rattle.rdm_chart.specs.Elements.{are_once, tag_front, end_tag, escaped, element_text, IsName}
+use Rattle.rdm_chart.specs.Elements.{are_once, tag_front, end_tag, escaped_value, element_text, IsName}
 use Rattle.rdm_chart.specs.Pictures.{AreDrawn, IsDrawnAs, IsContent, Nothing, IsDocument}
 use Rattle.rdm_chart.specs.Reading.{arrows_in, kind_named}
 use Rattle.rdm_chart.proofs.Documents.{element_content, line_ended}
@@ -50,7 +50,7 @@ pub path_looks : (class : List ℕ) (e : Element) (value way : String Global) �
     → e.attributes.items ≡ record { key = Class; value = value } ∷ record { key = Way; value = way } ∷ [] → string_bytes e.words ≡ []
     → IsDrawnAs (kind_named class) e
 path_looks class e value way name is tag items words =
-    (rw items refl, rw (tag, items) (refl, ap kind_named (sym (ap escaped is ∙ name_escaped class name)), words))
+    (rw items refl, rw (tag, items) (refl, ap kind_named (sym (ap escaped_value is ∙ name_escaped class name)), words))
 
 pub drawn_layers : (kinds : List Kind) (o g b l a f : List ℕ) → AreDrawn [] o g → AreDrawn [] g b → AreDrawn [] b l → AreDrawn kinds l a → AreDrawn [] a f
     → AreDrawn kinds o f

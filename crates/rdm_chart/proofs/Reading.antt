@@ -8,11 +8,12 @@ use Rattle.rdm_chart.specs.declared.element.Key.{Key}
 use Rattle.rdm_chart.specs.declared.element.Key.TheVariants as key
 use Rattle.rdm_chart.specs.declared.element.Tag.{Tag}
 use Rattle.rdm_chart.specs.declared.element.Tag.TheVariants as tag
-use Rattle.rdm_chart.specs.Markup.{IsPlain}
-use Rattle.rdm_chart.specs.Elements.{tag_name, key_name, tag_front, tag_rest, end_tag, escaped, attribute_text, attributes_text}
+use Rattle.rdm_markup.specs.declared.escaping.Place.TheVariants.{Attribute as InAttribute, Content}
+use Rattle.rdm_markup.specs.Markup.{IsPlain}
+use Rattle.rdm_chart.specs.Elements.{tag_name, key_name, tag_front, tag_rest, end_tag, escaped, escaped_value, attribute_text, attributes_text}
 use Rattle.rdm_chart.specs.Pictures.{LooksSo}
 use Rattle.rdm_chart.specs.Reading.{arrows_in, arrow_begun, kind_named, up_to}
-use Rattle.rdm_chart.proofs.Plainness.{plain_in_markup}
+use Rattle.rdm_markup.proofs.Plainness.{plain_in_markup}
 
 -- no arrow begins in a text, whatever follows
 abbrev Skips : List ℕ → Type 0
@@ -30,7 +31,10 @@ skips_plain (b ∷ text) p rest = by (b == 0x3C) refl (skips_plain text (All-tai
     by false e more = more
 
 skips_escaped : (words : List ℕ) → Skips (escaped words)
-skips_escaped words = skips_plain (escaped words) (plain_in_markup (chars words))
+skips_escaped words = skips_plain (escaped words) (plain_in_markup Content (chars words))
+
+skips_value : (value : List ℕ) → Skips (escaped_value value)
+skips_value value = skips_plain (escaped_value value) (plain_in_markup InAttribute (chars value))
 
 skips_name : (t : Tag) → Skips (tag_name t)
 skips_name tag.Svg rest = refl
@@ -66,9 +70,9 @@ skips_attribute : (a : Attribute) → Skips (attribute_text a)
 unfolding attribute_text
 skips_attribute a =
     let name = codes " " ++ key_name a.key in
-    let value = escaped (string_bytes a.value) in
+    let value = escaped_value (string_bytes a.value) in
     skips_both (name ++ codes "=\"" ++ value) (codes "\"")
-    (skips_both (name ++ codes "=\"") value (skips_both name (codes "=\"") (skips_both (codes " ") (key_name a.key) (λ rest. refl) (skips_key a.key)) (λ rest. refl)) (skips_escaped (string_bytes a.value)))
+    (skips_both (name ++ codes "=\"") value (skips_both name (codes "=\"") (skips_both (codes " ") (key_name a.key) (λ rest. refl) (skips_key a.key)) (λ rest. refl)) (skips_value (string_bytes a.value)))
     (λ rest. refl)
 
 skips_attributes : (attributes : List Attribute) → Skips (attributes_text attributes)
@@ -104,17 +108,17 @@ attribute_front name value rest =
 
 -- a path whose class comes first
 path_begun : (a : Attribute) (more : List Attribute) (rest : List ℕ) → a.key ≡ key.Class
-    → arrow_begun (tag_name tag.Path ++ (attributes_text (a ∷ more) ++ rest)) ≡ kind_named (escaped (string_bytes a.value))
+    → arrow_begun (tag_name tag.Path ++ (attributes_text (a ∷ more) ++ rest)) ≡ kind_named (escaped_value (string_bytes a.value))
 unfolding attribute_text
 path_begun a more rest is =
-    let value = escaped (string_bytes a.value) in
+    let value = escaped_value (string_bytes a.value) in
     let behind = attributes_text more ++ rest in
     let parts : attributes_text (a ∷ more) ++ rest ≡ 0x20 ∷ (codes "class" ++ (codes "=\"" ++ (value ++ 0x22 ∷ behind))) =
     append_assoc (attribute_text a) (attributes_text more) rest
     ∙ attribute_front (key_name a.key) value behind
     ∙ ap (λ (k : Key). 0x20 ∷ (key_name k ++ (codes "=\"" ++ (value ++ 0x22 ∷ behind)))) is in
     ap (λ (text : List ℕ). arrow_begun (tag_name tag.Path ++ text)) parts
-    ∙ ap kind_named (value_up_to value behind (plain_in_markup (chars (string_bytes a.value))))
+    ∙ ap kind_named (value_up_to value behind (plain_in_markup InAttribute (chars (string_bytes a.value))))
 
 -- what a reader finds in an opening tag that looks so
 looks_found : (kinds : List Kind) (t : Tag) (attributes : List Attribute) (words rest : List ℕ) → LooksSo kinds t attributes words

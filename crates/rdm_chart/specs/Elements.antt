@@ -9,7 +9,8 @@ use Rattle.rdm_chart.specs.declared.element.Key.{Key}
 use Rattle.rdm_chart.specs.declared.element.Key.TheVariants as key
 use Rattle.rdm_chart.specs.declared.element.Attribute.{Attribute}
 use Rattle.rdm_chart.specs.declared.element.Element.{Element}
-use Rattle.rdm_chart.specs.Markup.{in_markup}
+use Rattle.rdm_markup.specs.declared.escaping.Place.TheVariants.{Attribute as InAttribute, Content}
+use Rattle.rdm_markup.specs.Markup.{in_markup}
 
 -- the name of an element
 abbrev pub tag_name : Tag → List ℕ
@@ -51,13 +52,17 @@ is_letter b = within 0x61 b 0x7A || (b == 0x20) || (b == 0x2D)
 abbrev pub IsName : List ℕ → Type 0
 IsName name = AllByRecursion (λ b. is_letter b ≡ true) name
 
--- a text as it stands in markup: each character as it is, or as a reference
+-- a text as it stands in an element: each character as it is, or as a reference
 abbrev pub escaped : List ℕ → List ℕ
-escaped text = flat_map in_markup (chars text)
+escaped text = flat_map (in_markup Content) (chars text)
+
+-- the same in the value of an attribute
+abbrev pub escaped_value : List ℕ → List ℕ
+escaped_value text = flat_map (in_markup InAttribute) (chars text)
 
 -- an attribute: its name, and its value in quotation marks
 unfoldable pub attribute_text : Attribute → List ℕ
-attribute_text a = codes " " ++ key_name a.key ++ codes "=\"" ++ escaped (string_bytes a.value) ++ codes "\""
+attribute_text a = codes " " ++ key_name a.key ++ codes "=\"" ++ escaped_value (string_bytes a.value) ++ codes "\""
 
 abbrev pub attributes_text : List Attribute → List ℕ
 attributes_text attributes = flat_map attribute_text attributes

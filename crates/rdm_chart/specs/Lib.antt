@@ -2,7 +2,6 @@ pub mod Arrows
 pub mod Drawings
 pub mod Elements
 pub mod Errors
-pub mod Markup
 pub mod Pictures
 pub mod Reading
 pub mod Requests

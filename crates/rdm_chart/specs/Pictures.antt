@@ -7,14 +7,15 @@ use Rattle.rdm_chart.specs.declared.element.Element.{Element as Drawn}
 use Rattle.rdm_chart.specs.declared.element.Key.TheVariants.{Class}
 use Rattle.rdm_chart.specs.declared.element.Tag.{Tag}
 use Rattle.rdm_chart.specs.declared.element.Tag.TheVariants as tag
-use Rattle.rdm_chart.specs.Markup.{in_markup}
-use Rattle.rdm_chart.specs.Elements.{are_once, escaped, tag_front, end_tag}
+use Rattle.rdm_markup.specs.declared.escaping.Place.TheVariants.{Content}
+use Rattle.rdm_markup.specs.Markup.{in_markup}
+use Rattle.rdm_chart.specs.Elements.{are_once, escaped_value, tag_front, end_tag}
 use Rattle.rdm_chart.specs.Reading.{arrows_in, kind_named}
 
 -- An element is drawn so: of its kinds if it is a path, whose class comes first and which has no text, and else as no arrow.
 abbrev pub LooksSo : List Kind → Tag → List Attribute → List ℕ → Type 0
 LooksSo kinds tag.Path [] words = ⊥
-LooksSo kinds tag.Path (a ∷ more) words = (a.key ≡ Class) × (kinds ≡ kind_named (escaped (string_bytes a.value))) × (words ≡ [])
+LooksSo kinds tag.Path (a ∷ more) words = (a.key ≡ Class) × (kinds ≡ kind_named (escaped_value (string_bytes a.value))) × (words ≡ [])
 LooksSo kinds tag.Svg attributes words = kinds ≡ []
 LooksSo kinds tag.Title attributes words = kinds ≡ []
 LooksSo kinds tag.Style attributes words = kinds ≡ []
@@ -32,7 +33,7 @@ IsDrawnAs kinds e = (are_once e.attributes.items ≡ true) × LooksSo kinds e.ta
 -- twice in a tag.
 pub data IsContent : List ℕ → Type 0 where
   Nothing : IsContent []
-  Words : (text rest : List ℕ) → IsContent rest → IsContent (flat_map in_markup text ++ rest)
+  Words : (text rest : List ℕ) → IsContent rest → IsContent (flat_map (in_markup Content) text ++ rest)
   Element : (tag : Tag) → (attributes : List Attribute) → are_once attributes ≡ true → (content rest : List ℕ)
       → IsContent content → IsContent rest → IsContent (tag_front tag attributes ++ (codes ">" ++ (content ++ (end_tag tag ++ rest))))
   Empty : (tag : Tag) → (attributes : List Attribute) → are_once attributes ≡ true → (rest : List ℕ)

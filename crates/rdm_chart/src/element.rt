@@ -4,7 +4,7 @@ ghost use Rattle.std.specs.Prelude.{◌≡◌, ◌++◌, ◌∷◌, [], OnOk, If
 ghost use Rattle.std.specs.List.{flat_map};
 ghost use Rattle.rdm_chart.specs.Elements.{tag_name, key_name, attribute_text, attributes_text, tag_front, tag_rest, end_tag, element_text};
 
-use crate::escape::put_escaped;
+use rdm_markup::{Place, put_escaped};
 use std::alloc::{AllocError, Global};
 
 /// What an element is (SVG 1.1).
@@ -161,7 +161,7 @@ fn put_tag_rest(markup: &mut String, tag: Tag, words: &str) -> Result<(), AllocE
         return markup.push_str("/>");
     }
     markup.push_str(">")?;
-    put_escaped(markup, words)?;
+    put_escaped(markup, Place::Content, words)?;
     put_end_tag(markup, tag)
 }
 
@@ -190,6 +190,6 @@ fn put_attribute(markup: &mut String, attribute: &Attribute) -> Result<(), Alloc
     markup.push_str(" ")?;
     markup.push_str(attribute.key.name())?;
     markup.push_str("=\"")?;
-    put_escaped(markup, attribute.value.as_str())?;
+    put_escaped(markup, Place::Attribute, attribute.value.as_str())?;
     markup.push_str("\"")
 }

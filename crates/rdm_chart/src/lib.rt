@@ -11,7 +11,6 @@ mod cast;
 mod charting;
 mod drawing;
 mod element;
-mod escape;
 mod heads;
 mod laws;
 mod layout;
@@ -28,6 +27,5 @@ mod wording;
 mod work;
 
 pub use charting::{ChartError, MOST_TRANSACTIONS, chart, chart_of};
-pub use escape::put_escaped;
-pub use laws::{chart_errors_are_equal_by_value, escaped_text_has_no_tags};
+pub use laws::chart_errors_are_equal_by_value;
 pub use title::Named;

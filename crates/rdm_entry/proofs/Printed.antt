@@ -9,7 +9,7 @@ use Rattle.std.proofs.lemmas.Bool.Decides.{nat_tests}
 use Rattle.rdm_profile.specs.declared.profile.fields.Width.{Width}
 use Rattle.rdm_profile.specs.declared.profile.fields.Width.TheVariants.{One, Two, Four}
 use Rattle.rdm_profile.specs.Fields.{reach_of}
-use Rattle.rdm_words.specs.declared.tables.Table.{Table}
+use Rattle.rdm_standard_names.specs.declared.table.Table.{Table}
 use Rattle.rdm_entry.specs.declared.field.Field.TheVariants as fields
 use Rattle.rdm_entry.specs.declared.error.Wrong.TheVariants as wrong
 use Rattle.rdm_entry.specs.Numerals.{numeral_in, is_unclear}

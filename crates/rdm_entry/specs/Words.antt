@@ -10,7 +10,7 @@ use Rattle.rdm_frame.specs.DigitReading.{number_in}
 use Rattle.rdm_profile.specs.declared.profile.fields.Width.{Width}
 use Rattle.rdm_profile.specs.declared.profile.fields.Width.TheVariants.{One, Two, Four}
 use Rattle.rdm_profile.specs.Fields.{reach_of}
-use Rattle.rdm_words.specs.declared.tables.Table.{Table}
+use Rattle.rdm_standard_names.specs.declared.table.Table.{Table}
 use Rattle.rdm_entry.specs.declared.field.Field.{Field}
 use Rattle.rdm_entry.specs.declared.field.Field.TheVariants as fields
 use Rattle.rdm_entry.specs.declared.error.Wrong.{Wrong}

@@ -2,7 +2,7 @@
 
 use crate::Field;
 use rdm_device::Width;
-use rdm_words::tables::Table;
+use rdm_standard_names::Table;
 use std::fmt;
 
 /// What is wrong with a word.

@@ -1,7 +1,7 @@
 //! The fields of parameter data.
 
 use rdm_device::Width;
-use rdm_words::tables::Table;
+use rdm_standard_names::Table;
 
 /// A field of parameter data, which one word says.
 #[derive(Clone, Copy)]

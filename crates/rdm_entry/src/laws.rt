@@ -12,7 +12,7 @@ ghost use Rattle.rdm_entry.specs.Words.{slots_of, said};
 
 use crate::{Field, Wrong};
 use rdm_device::Width;
-use rdm_words::tables::Table;
+use rdm_standard_names::Table;
 
 /// What is printed of a number in decimal digits says this number, for each field that can say it, whatever names are in its table.
 #[tactic(auto, using(crate::proofs::Printed::read_back, crate::proofs::Printed::read_back_named))]

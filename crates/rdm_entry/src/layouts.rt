@@ -3,7 +3,7 @@
 use crate::Field;
 use crate::field::{BYTE, LONG, WORD};
 use rdm_device::Width;
-use rdm_words::tables::Table;
+use rdm_standard_names::Table;
 use rdm_words::tables::dimmers::{IDENTIFY_MODES, MERGE_MODES};
 use rdm_words::tables::settings::{
     DISPLAY_INVERSIONS, LAMP_ON_MODES, LAMP_STATES, POWER_STATES, PRESETS, RESETS, SELF_TESTS,

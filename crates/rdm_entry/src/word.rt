@@ -13,7 +13,7 @@ use crate::signed::signed_said;
 use rdm_device::Width;
 use rdm_frame::Load;
 use rdm_frame::digits::word_in;
-use rdm_words::tables::Table;
+use rdm_standard_names::Table;
 
 /// The slots that a word says for a field, or why it says none.
 #[tactic(auto, unfolding(crate::specs::Words::said))]

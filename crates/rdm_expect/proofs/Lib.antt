@@ -1,5 +1,4 @@
 pub mod Branches
-mod Escaping
 pub mod Pieces
 pub mod Rows
 pub mod Scripts

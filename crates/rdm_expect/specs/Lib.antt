@@ -1,5 +1,4 @@
 pub mod Lines
-pub mod Markup
 pub mod Reasons
 pub mod Sheets
 pub mod Verdicts

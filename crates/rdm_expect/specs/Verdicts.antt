@@ -6,6 +6,7 @@ use Rattle.std.specs.Str.{bytes_eq}
 use Rattle.rdm_frame.specs.declared.uid.Uid.{Uid}
 use Rattle.rdm_frame.specs.Discovery.{branch_reply}
 use Rattle.rdm_frame.specs.Faults.{reply_heard}
+use Rattle.rdm_frame.specs.Reading.{frame_in}
 use Rattle.rdm_collector.specs.Replies.{Said, reply_in}
 use Rattle.rdm_collector.specs.declared.reply.Response.{Response}
 use Rattle.rdm_collector.specs.declared.reply.Response.TheVariants as response
@@ -90,9 +91,17 @@ heard_of other part = None
 abbrev pub is_answer_of : Uid → List ℕ → Bool
 is_answer_of uid bytes = nat_le (24 - length bytes) 7 && bytes_eq bytes (drop (24 - length bytes) (branch_reply uid))
 
--- the controller hears that answer
+-- a request that is DISC_UNIQUE_BRANCH
+abbrev pub is_branch : List ℕ → Bool
+is_branch request = option_map_or (λ f. f.class == 0x10 && f.pid == 0x0001) (frame_in request) false
+
+abbrev pub asks_branch : Option Line → Bool
+asks_branch (Some (line.Send bytes fault)) = is_branch bytes
+asks_branch other = false
+
+-- that is the request, and the controller hears that answer
 abbrev pub is_found : Uid → Option Line → List Line → Bool
-is_found uid sent part = option_map_or (is_answer_of uid) (heard_of sent part) false
+is_found uid sent part = asks_branch sent && option_map_or (is_answer_of uid) (heard_of sent part) false
 
 -- ---- times
 

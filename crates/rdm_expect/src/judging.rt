@@ -1,12 +1,13 @@
 //! Expectations are judged by the lines of a trace.
 
 ghost use Rattle.std.specs.Prelude.{◌≡◌, ◌≤◌, ◌++◌, [], ◌∷◌, map, filter, find, slice_get, length, IfOk, OnOk, option_map};
-ghost use Rattle.rdm_expect.specs.Verdicts.{is_send, is_reply, is_heard, sends_of, parts_of, bytes_told, heard_told, answered_in, heard_in, answer_in, came_of, came_in, time_told, sent_at, heard_at, passed_in, heard_of, is_answer_of, is_found, is_ack, is_timer, is_overflow, is_nack, is_met, holds, verdict_if, in_time, judged, judged_at, verdict_of};
+ghost use Rattle.rdm_expect.specs.Verdicts.{is_send, is_reply, is_heard, sends_of, parts_of, bytes_told, heard_told, answered_in, heard_in, answer_in, came_of, came_in, time_told, sent_at, heard_at, passed_in, heard_of, is_answer_of, is_branch, asks_branch, is_found, is_ack, is_timer, is_overflow, is_nack, is_met, holds, verdict_if, in_time, judged, judged_at, verdict_of};
 
 use crate::sheet::Expectation;
 use crate::wish::Wish;
 use rdm_collector::{Body, Heard, Response, Uid, Wire, read_reply};
-use rdm_frame::disc_reply;
+use rdm_frame::standard::{DISC_UNIQUE_BRANCH, DISCOVERY_COMMAND};
+use rdm_frame::{decode_view, disc_reply};
 use rdm_trace::Line;
 use std::alloc::{AllocError, Global};
 
@@ -168,13 +169,33 @@ fn verdict_if(holds: bool, came: Came) -> Verdict
     }
 }
 
-/// Whether the controller hears the answer of this device to DISC_UNIQUE_BRANCH.
+/// Whether the request is DISC_UNIQUE_BRANCH, and the controller hears the answer of this device to it.
 fn is_found(uid: Uid, sent: Option<&Line>, part: &[Line]) -> bool
     ensures { result ≡ is_found uid (option_map (λ line. line.now) sent.entry) part.now }
 {
     match heard_of(sent, part) {
-        Some(bytes) => is_answer_of(uid, bytes.as_slice()),
+        Some(bytes) => asks_branch(sent) && is_answer_of(uid, bytes.as_slice()),
         None => false,
+    }
+}
+
+/// Whether a line is of a request that is DISC_UNIQUE_BRANCH.
+fn asks_branch(sent: Option<&Line>) -> bool
+    ensures { result ≡ asks_branch (option_map (λ line. line.now) sent.entry) }
+{
+    match sent {
+        Some(Line::Send { bytes, .. }) => is_branch(bytes.as_slice()),
+        _ => false,
+    }
+}
+
+/// Whether a request is DISC_UNIQUE_BRANCH.
+fn is_branch(request: &[u8]) -> bool
+    ensures { result ≡ is_branch request.now }
+{
+    match decode_view(request) {
+        Ok(frame) => frame.class == DISCOVERY_COMMAND && frame.pid == DISC_UNIQUE_BRANCH,
+        Err(_) => false,
     }
 }
 

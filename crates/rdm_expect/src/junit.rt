@@ -1,10 +1,10 @@
 //! What came of expectations, as JUnit XML.
 
-use crate::escape::put_escaped;
 use crate::judging::Verdict;
 use crate::sheet::Expectation;
 use crate::tally::tally_of;
 use crate::telling::Failure;
+use rdm_markup::{Place, put_escaped};
 use std::alloc::AllocError;
 use std::fmt::Write;
 
@@ -39,7 +39,7 @@ pub fn put_suite(
     verdicts: &[Verdict],
 ) -> Result<(), AllocError> {
     markup.push_str("<testsuite name=\"")?;
-    put_escaped(markup, name)?;
+    put_escaped(markup, Place::Attribute, name)?;
     let tests = expectations.len();
     let tally = tally_of(verdicts);
     let failed = tally.failed;
@@ -63,7 +63,7 @@ fn put_case(
 ) -> Result<(), AllocError> {
     let Expectation { line, wish, .. } = expectation;
     markup.push_str("  <testcase classname=\"")?;
-    put_escaped(markup, name)?;
+    put_escaped(markup, Place::Attribute, name)?;
     write!(markup, "\" name=\"line {line}: expect {wish}\"")?;
     match verdict {
         Verdict::Passed => markup.push_str("/>\n"),

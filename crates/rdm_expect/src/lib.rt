@@ -5,7 +5,6 @@
 //! stands in `specs/Sheets.antt`, what their words want in `specs/Wishes.antt`, and when they hold in `specs/Verdicts.antt`.
 #![tactic(auto)]
 
-mod escape;
 mod judging;
 mod junit;
 mod laws;
@@ -17,7 +16,6 @@ mod telling;
 mod wish;
 mod words;
 
-pub use escape::put_escaped;
 pub use judging::{Answer, Came, Verdict, judge};
 pub use junit::{put_junit, put_suite, put_suites};
 pub use laws::{found_is_the_answer_to_discovery, text_without_expectations_is_its_script};

@@ -135,22 +135,27 @@ impl fmt::Display for Tally {
 }
 
 /// Puts a line for each expectation that doesn't hold or can't be judged at the end of a text, and one with how many there are of each.
-/// Only tests show what the lines say.
+/// Where a name is given, as one of several scripts, each line begins with it. Only tests show what the lines say.
 pub fn put_report(
     text: &mut String,
+    name: Option<&str>,
     expectations: &[Expectation],
     verdicts: &[Verdict],
 ) -> Result<(), AllocError> {
     for (expectation, verdict) in expectations.iter().zip(verdicts) {
-        put_verdict(text, expectation, verdict)?;
+        put_verdict(text, name, expectation, verdict)?;
     }
     let tally = tally_of(verdicts);
-    write!(text, "{tally}\n")
+    match name {
+        Some(name) => write!(text, "{name}: {tally}\n"),
+        None => write!(text, "{tally}\n"),
+    }
 }
 
 /// Puts a line for an expectation, unless it holds.
 fn put_verdict(
     text: &mut String,
+    name: Option<&str>,
     expectation: &Expectation,
     verdict: &Verdict,
 ) -> Result<(), AllocError> {
@@ -158,12 +163,21 @@ fn put_verdict(
     match verdict {
         Verdict::Passed => Ok(()),
         Verdict::Failed(came) => {
+            put_line_number(text, name, *line)?;
             let failure = Failure { wish, came };
-            write!(text, "line {line}: {failure}\n")
+            write!(text, "{failure}\n")
         }
-        Verdict::Skipped => write!(
-            text,
-            "line {line}: skipped {wish}: the trace has no times\n"
-        ),
+        Verdict::Skipped => {
+            put_line_number(text, name, *line)?;
+            write!(text, "skipped {wish}: the trace has no times\n")
+        }
+    }
+}
+
+/// Puts the number of a line, and the name of its script, if that is given.
+fn put_line_number(text: &mut String, name: Option<&str>, line: usize) -> Result<(), AllocError> {
+    match name {
+        Some(name) => write!(text, "{name}:{line}: "),
+        None => write!(text, "line {line}: "),
     }
 }

@@ -1,17 +1,21 @@
 //! From bytes to the frame that they are the text of.
 
-ghost use Rattle.std.specs.Prelude.{◌≡◌, ◌+◌, ◌≤◌, ◌↔◌, length, IfOk, IfErr, OnOk};
+ghost use Rattle.std.specs.Prelude.{◌≡◌, ◌+◌, true, ◌≤◌, ◌↔◌, length, IfOk, IfErr, OnOk};
 ghost use Rattle.std.specs.Result.{result_ok};
 ghost use Rattle.rdm_frame.specs.FrameText.{frame_text, IsFrame};
-ghost use Rattle.rdm_frame.specs.Reading.{frame_of, frame_in, word_at, uid_at, PassesAll, IsFirstFault};
+ghost use Rattle.rdm_frame.specs.Reading.{frame_of, frame_in, word_at, uid_at, Passes, PassesAll, IsFirstFault};
+ghost use Rattle.rdm_frame.specs.declared.decoding.FrameError.TheVariants.{Start, SubStart};
 
 use crate::encoding::{HEAD_SLOTS, checksum_of};
-use crate::standard::{START_CODE, SUB_START_CODE};
+use crate::standard::START_CODE;
 use crate::{Frame, FrameView, Uid};
 use thiserror::Error;
 
 /// How many bytes a frame without parameter data has: the header and the checksum.
 const SHORTEST: usize = 26;
+
+/// The first two slots of every frame, START code and sub-START code (E1.20 sections 6.2.1 and 6.2.2).
+const START_CODES: u16 = 0xCC01;
 
 /// Why bytes aren't a valid frame: the first of six tests, in this order, that they fail (E1.20 section 6.2).
 #[derive(Clone, Copy, Debug, PartialEq, Eq, Error)]
@@ -81,11 +85,8 @@ fn test(bytes: &[u8]) -> Result<(), FrameError>
     if len < SHORTEST {
         return Err(FrameError::Short);
     }
-    if bytes[0] != START_CODE {
-        return Err(FrameError::Start);
-    }
-    if bytes[1] != SUB_START_CODE {
-        return Err(FrameError::SubStart);
+    if !has_start_codes(bytes) {
+        return Err(start_fault(bytes));
     }
     // There are 26 bytes, so a length that matches their number isn't under 24.
     if bytes[2] as usize + 2 != len {
@@ -98,6 +99,29 @@ fn test(bytes: &[u8]) -> Result<(), FrameError>
         return Err(FrameError::Checksum);
     }
     Ok(())
+}
+
+/// Whether the first two slots are right.
+// Both at once: which of them is wrong is asked only if one is.
+#[inline(always)]
+fn has_start_codes(bytes: &[u8]) -> bool
+    requires { 26 ≤ length bytes.now }
+    ensures { (result ≡ true) ↔ (Passes Start bytes.now × Passes SubStart bytes.now) }
+{
+    u16::from_be_bytes([bytes[0], bytes[1]]) == START_CODES
+}
+
+/// Which of the first two slots is wrong.
+fn start_fault(bytes: &[u8]) -> FrameError
+    requires len { 26 ≤ length bytes.now }
+    requires wrong { ¬ (Passes Start bytes.now × Passes SubStart bytes.now) }
+    ensures { IsFirstFault result bytes.now }
+{
+    if bytes[0] != START_CODE {
+        FrameError::Start
+    } else {
+        FrameError::SubStart
+    }
 }
 
 /// What the slots say. The tests have passed, so that they are a frame's.

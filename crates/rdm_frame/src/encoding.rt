@@ -1,10 +1,11 @@
 //! From a frame to its text.
 
 ghost use Rattle.std.specs.Prelude.{[], ◌≡◌, ◌+◌, ◌++◌, ◌%◌, ◌≤◌, length, sum};
-ghost use Rattle.rdm_frame.specs.FrameText.{frame_text, head_slots, uid_slots};
+ghost use Rattle.std.specs.Int.{w32, to_be_bytes};
+ghost use Rattle.rdm_frame.specs.FrameText.{frame_text, head_slots};
 
 use crate::standard::{START_CODE, SUB_START_CODE};
-use crate::{Frame, FrameView, Uid, Wire};
+use crate::{Frame, FrameView, Wire};
 
 /// How many slots stand before the parameter data.
 pub(crate) const HEAD_SLOTS: usize = 24;
@@ -44,7 +45,8 @@ fn write_head(frame: &FrameView<'_>, wire: &mut Wire)
 {
     let data = frame.body.len() as u8;
     wire.append(&[START_CODE, SUB_START_CODE, HEAD_SLOTS as u8 + data]);
-    wire.append(&uid_slots(frame.dst));
+    wire.append(&frame.dst.maker.to_be_bytes());
+    wire.append(&device_slots(frame.dst.device));
     wire.append(&frame.src.maker.to_be_bytes());
     wire.append(&frame.src.device.to_be_bytes());
     wire.append(&[frame.tn, frame.port, frame.count]);
@@ -54,16 +56,14 @@ fn write_head(frame: &FrameView<'_>, wire: &mut Wire)
     wire.append(&[data]);
 }
 
-/// The slots of a UID (E1.20 sections 6.2.4 and 6.2.5).
-// Of a UID that was read from slots, as the requester's is: slot by slot the compiler sees that it stores what it read. The own
-// UID is stored as two numbers, since sixteen slots in a row would go one by one through a vector.
+/// The slots of a device ID (E1.20 sections 6.2.4 and 6.2.5).
+// Of the requester's, which was read from slots with its bytes swapped: so the two swaps meet, and the compiler stores what it read.
+// `to_be_bytes` would take the number apart again.
 #[inline(always)]
-fn uid_slots(uid: Uid) -> [u8; 6]
-    ensures { result ≡ uid_slots uid }
+fn device_slots(device: u32) -> [u8; 4]
+    ensures { result ≡ to_be_bytes w32 device }
 {
-    let [upper, lower] = uid.maker.to_be_bytes();
-    let [first, second, third, fourth] = uid.device.to_be_bytes();
-    [upper, lower, first, second, third, fourth]
+    device.swap_bytes().to_le_bytes()
 }
 
 /// Writes the parameter data behind them.

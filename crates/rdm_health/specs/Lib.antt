@@ -1,4 +1,3 @@
-pub mod Placing
 pub mod SensorNames
 pub mod SensorTable
 pub mod Sensors

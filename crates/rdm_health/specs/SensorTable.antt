@@ -1,20 +1,19 @@
 -- Sensors as a table on a terminal, a line for each.
 use Rattle.std.specs.Prelude.{ℕ, ℤ, ◌==◌, List, [], ◌∷◌, ◌++◌, length, codes, decimal, Option, Some, None, if◌then◌else◌}
-use Rattle.std.specs.List.{flat_map}
 use Rattle.std.specs.Fmt.{signed_decimal}
 use Rattle.rdm_frame.specs.Digits.{digits}
+use Rattle.rdm_survey.specs.declared.table.Width.{Width}
+use Rattle.rdm_survey.specs.declared.table.Width.TheVariants as wide
+use Rattle.rdm_survey.specs.Columns.{line_of, placed}
 use Rattle.rdm_survey.specs.Members.{place_word}
 use Rattle.rdm_survey.specs.Shown.{shown}
 use Rattle.rdm_survey.specs.Table.{untold}
 use Rattle.rdm_words.specs.FieldFacts.{has_highest, has_lowest}
-use Rattle.rdm_health.specs.declared.placing.Width.{Width}
-use Rattle.rdm_health.specs.declared.placing.Width.TheVariants as wide
 use Rattle.rdm_health.specs.declared.sensor_row.SensorRow.{SensorRow}
 use Rattle.rdm_health.specs.declared.sensor_table.Column.{Column}
 use Rattle.rdm_health.specs.declared.sensor_table.Column.TheVariants as column
 use Rattle.rdm_health.specs.declared.sensors.SensorDefinition.{SensorDefinition}
 use Rattle.rdm_health.specs.declared.sensors.SensorValue.{SensorValue}
-use Rattle.rdm_health.specs.Placing.{placed}
 use Rattle.rdm_health.specs.SensorNames.{prefix_symbol, sensor_type, unit_symbol}
 use Rattle.rdm_health.specs.Verdicts.{verdict_on, verdict_word}
 
@@ -137,15 +136,9 @@ columns =
     column.Place ∷ column.Number ∷ column.Name ∷ column.Kind ∷ column.Value ∷ column.Lowest ∷ column.Highest ∷ column.Recorded
     ∷ column.Normal ∷ column.Verdict ∷ []
 
-unfoldable pub heading_place : Column → List ℕ
-heading_place c = placed (width c) (heading c)
-
 abbrev pub sensor_heading : List ℕ
-sensor_heading = flat_map heading_place columns ++ 0x0A ∷ []
-
-unfoldable pub sensor_place : SensorRow → Column → List ℕ
-sensor_place row c = placed (width c) (words_in c row)
+sensor_heading = line_of (λ c. placed (width c) (heading c)) columns
 
 -- The line of a sensor.
 abbrev pub sensor_line : SensorRow → List ℕ
-sensor_line row = flat_map (sensor_place row) columns ++ 0x0A ∷ []
+sensor_line row = line_of (λ c. placed (width c) (words_in c row)) columns

@@ -8,10 +8,10 @@ use Rattle.rdm_frame.specs.Digits.{digits}
 use Rattle.rdm_frame.specs.Severities.{severity_in, severity_name}
 use Rattle.rdm_survey.specs.Members.{uid_word}
 use Rattle.rdm_survey.specs.Shown.{shown}
+use Rattle.rdm_survey.specs.Columns.{padded}
 use Rattle.rdm_survey.specs.Table.{untold}
 use Rattle.rdm_health.specs.declared.status_row.StatusRow.{StatusRow}
 use Rattle.rdm_health.specs.declared.statuses.StatusEntry.{StatusEntry}
-use Rattle.rdm_health.specs.Placing.{padded}
 use Rattle.rdm_health.specs.StatusNames.{lamp_state, slot_label, status_text}
 
 -- the four digits of a number of 16 bits

@@ -7,7 +7,6 @@
 
 mod laws;
 mod names;
-mod placing;
 mod sensor_row;
 mod sensor_table;
 mod sensor_words;

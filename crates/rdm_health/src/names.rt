@@ -4,9 +4,9 @@ ghost use Rattle.std.specs.Prelude.{◌≡◌, option_map};
 ghost use Rattle.rdm_health.specs.SensorNames.{prefix_symbol, sensor_type, unit_symbol};
 ghost use Rattle.rdm_health.specs.StatusNames.{lamp_state, slot_label, status_text};
 
-use rdm_words::tables::sensors::{SENSOR_TYPES, SENSOR_UNITS, UNIT_PREFIXES};
+use rdm_standard_names::sensors::{SENSOR_TYPES, SENSOR_UNITS, UNIT_PREFIXES};
+use rdm_standard_names::slots::SLOT_LABELS;
 use rdm_words::tables::settings::LAMP_STATES;
-use rdm_words::tables::slots::SLOT_LABELS;
 use rdm_words::tables::statuses::STATUS_IDS;
 
 /// What a sensor measures (table A-12).

@@ -5,10 +5,9 @@ ghost use Rattle.std.specs.List.{flat_map};
 ghost use Rattle.rdm_health.specs.StatusTable.{is_lamp_well, lamp_line, line, status_heading, status_line, waiting_line};
 
 use crate::StatusEntry;
-use crate::placing::put_padded;
 use crate::status_words::{put_lamp, put_message, put_severity, put_sub, put_waiting};
 use rdm_frame::{Text, Uid};
-use rdm_survey::put_place;
+use rdm_survey::{put_padded, put_place};
 use std::alloc::{AllocError, Global};
 
 /// What is known of one status message of a fixture.

@@ -30,6 +30,8 @@ pub enum Fault<'a> {
     TooManySubs(&'a str, u16),
     /// There are to be fixtures of so many kinds on the line, and so many of each.
     TooManyFixtures(usize, u16),
+    /// This word has a number of fixtures behind its file that there can't be on a line.
+    BadCount(&'a str),
     /// From the UID of this file on there aren't so many device IDs.
     TooFewDeviceIds(&'a str, Uid, u16),
     /// Two fixtures on the line would have this UID, one of them of this file, or of the demonstration.
@@ -70,8 +72,8 @@ pub enum Fault<'a> {
     Stopped(&'a str, Option<usize>, RunError),
     /// The setup of a script, at this line if it is known, isn't possible for a fixture with N sub-devices.
     BadSetup(&'a str, Option<usize>, u16),
-    /// The fixture of a script has the UID of the controller.
-    ControllersUid(Uid),
+    /// The fixture of a script, which this file describes, has the UID of the controller.
+    ControllersUid(&'a str, Uid),
     /// A file isn't valid UTF-8, from this place on.
     NoText(&'a str, Place),
     /// A file isn't valid TOML, at this place.
@@ -156,7 +158,7 @@ impl<'a> Fault<'a> {
             | Fault::TooManyTransactions(_, _)
             | Fault::Syntax(_, _, _)
             | Fault::Fixture(_, _, _)
-            | Fault::ControllersUid(_)
+            | Fault::ControllersUid(_, _)
             | Fault::NoDevice
             | Fault::NotSaved(_)
             | Fault::OtherProfile(_) => 1,
@@ -170,6 +172,7 @@ impl<'a> Fault<'a> {
             | Fault::SameOutput(_)
             | Fault::TooManySubs(_, _)
             | Fault::TooManyFixtures(_, _)
+            | Fault::BadCount(_)
             | Fault::TooFewDeviceIds(_, _, _)
             | Fault::TwoOfOneUid(_, _)
             | Fault::SavedOfMany(_)

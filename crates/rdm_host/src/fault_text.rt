@@ -147,6 +147,7 @@ fn write_refused<W: fmt::Write>(f: &mut fmt::Formatter<W>, fault: &Fault<'_>) ->
             Name(name)
         ),
         Fault::TooManyFixtures(_, _)
+        | Fault::BadCount(_)
         | Fault::TooFewDeviceIds(_, _, _)
         | Fault::TwoOfOneUid(_, _)
         | Fault::SavedOfMany(_) => write_no_rig(f, fault),
@@ -155,9 +156,10 @@ fn write_refused<W: fmt::Write>(f: &mut fmt::Formatter<W>, fault: &Fault<'_>) ->
             "error: {}: the fixture has no such parameter; felosumay parameters lists them",
             Name(name)
         ),
-        Fault::ControllersUid(uid) => write!(
+        Fault::ControllersUid(name, uid) => write!(
             f,
-            "error: {uid} is the controller's UID, so no script can be played on this fixture"
+            "error: {}: {uid} is the controller's UID, so no script can be played on this fixture",
+            Name(name)
         ),
         _ => f.write_str("error: an argument isn't valid UTF-8"),
     }
@@ -177,9 +179,14 @@ fn write_no_rig<W: fmt::Write>(f: &mut fmt::Formatter<W>, fault: &Fault<'_>) -> 
                 "error: --count: {each} of each of {kinds} files are {count} fixtures, more than {MOST_FIXTURES}"
             )
         }
+        Fault::BadCount(word) => write!(
+            f,
+            "error: --fixture: {}: there can be 1 to {MOST_FIXTURES} of a fixture",
+            Name(word)
+        ),
         Fault::TooFewDeviceIds(name, uid, count) => write!(
             f,
-            "error: --count: {}: there are fewer than {count} device IDs from {uid} on",
+            "error: {}: there are fewer than {count} device IDs from {uid} on",
             Name(name)
         ),
         Fault::TwoOfOneUid(name, uid) => write!(

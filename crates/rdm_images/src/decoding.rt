@@ -13,7 +13,7 @@ use thiserror::Error;
 #[derive(Clone, Copy, Debug, PartialEq, Eq, Error)]
 pub enum ImageError {
     /// There are fewer bytes than a header has, or than the header says.
-    #[error("the image is cut")]
+    #[error("the image is truncated")]
     Cut,
     /// The check and the sum of the bytes behind it aren't 4294967295 together: a byte is altered, or there is no image.
     #[error("the image is altered")]

@@ -9,7 +9,7 @@ use Rattle.rdm_params.specs.Jobs.Laws.{SameDevices}
 use Rattle.rdm_params.proofs.StaysAccepted.{set_keeps_devices, commit_keeps_devices, panel_keeps_devices, place_keeps_devices}
 use Rattle.rdm_profile.specs.declared.profile.Profile.{Profile}
 use Rattle.rdm_saved.specs.Restoring.{restored, restored_devices, device_size}
-use Rattle.rdm_responder.specs.History.{Event, Heard, Arrived, Changed, Placed, Noted, Restored, History}
+use Rattle.rdm_responder.specs.History.{Event, Heard, Arrived, Changed, Placed, Noted, Restored, Dropped, History}
 use Rattle.rdm_responder.specs.Requests.{Request, Ignored, Branch, Muting, Get, Set, request_in}
 use Rattle.rdm_responder.specs.Rules.{Account, account_after, account_before, account_of, account_with}
 use Rattle.rdm_judge.specs.Judging.{OfOneFixture}
@@ -47,6 +47,7 @@ event_keeps a (Changed change) = record { setup = refl; devices = panel_keeps_de
 event_keeps a (Placed sub pid bytes) = record { setup = refl; devices = place_keeps_devices a.parameters sub pid bytes }
 event_keeps a (Noted entry) = record { setup = refl; devices = same_as_itself a.parameters }
 event_keeps a (Restored image) = record { setup = refl; devices = restore_keeps a.parameters image }
+event_keeps a Dropped = record { setup = refl; devices = same_as_itself a.parameters }
 
 events_keep : (es : List Event) (a : Account) → Stays a (fold account_after a es)
 events_keep [] a = record { setup = refl; devices = same_as_itself a.parameters }

@@ -22,13 +22,13 @@ use Rattle.rdm_outbox.specs.declared.job.Job.{Job}
 use Rattle.rdm_outbox.specs.Jobs.{after_arrive, has_room, next_job, waiting_of}
 use Rattle.rdm_outbox.specs.Messages.{after_dispense, after_next, after_status, dispensed, is_last, last_of, last_or, next_of, status_dispensed}
 use Rattle.rdm_outbox.specs.Statuses.{can_note, status_message, status_now}
-use Rattle.rdm_responder.specs.History.{Event, Heard, Arrived, Changed, Placed, Noted, Restored}
+use Rattle.rdm_responder.specs.History.{Event, Heard, Arrived, Changed, Placed, Noted, Restored, Dropped}
 use Rattle.rdm_responder.specs.Rules.{Account, account_after, after_entry, after_message, after_outcome, outbox_after}
 use Rattle.rdm_judge.specs.Seen.{is_unseen}
 
 -- No message was given or answered, and no fewer arrived.
 pub record Later (b c : outbox.Account) : Type 0 where
-  pub given : c.given ≡ b.given
+  pub given : c.gone ≡ b.gone
   pub answers : c.answers ≡ b.answers
   pub arrived : length b.arrived ≤ length c.arrived
 
@@ -42,7 +42,7 @@ pub same_last : (b c : outbox.Account) → Later b c → last_of c ≡ last_of b
 same_last b c later = ap (λ (ms : List Message). last_or (status_message []) ms) later.answers
 
 pub no_fewer : (b c : outbox.Account) → Later b c → length (waiting_of b) ≤ length (waiting_of c)
-no_fewer b c later = omega (arith, length-drop b.given b.arrived, length-drop c.given c.arrived)
+no_fewer b c later = omega (arith, length-drop b.gone b.arrived, length-drop c.gone c.arrived)
 
 -- ---- events that no capture shows
 
@@ -79,6 +79,7 @@ unseen_later a (Changed change) e = (message_later a.outbox (change_message a.pa
 unseen_later a (Placed sub pid bytes) e = (itself a.outbox, refl)
 unseen_later a (Noted entry) e = (entry_later a.parameters a.outbox entry, refl)
 unseen_later a (Restored image) e = (itself a.outbox, refl)
+unseen_later a Dropped e = absurd (cc)
 
 -- ---- commands
 
@@ -102,16 +103,16 @@ last_or_push : (m x : Message) (xs : List Message) → last_or m (xs ++ x ∷ []
 last_or_push m x [] = refl
 last_or_push m x (y ∷ xs) = last_or_push y x xs
 
-next_is_last : (b : outbox.Account) (ask : Ask) (more : Bool) → nat_lt b.given (length b.arrived) ≡ more → last_of (after_next b ask) ≡ next_of b ask
+next_is_last : (b : outbox.Account) (ask : Ask) (more : Bool) → nat_lt b.gone (length b.arrived) ≡ more → last_of (after_next b ask) ≡ next_of b ask
 next_is_last b ask true e = ap last_of (cond-true _ _ _ e) ∙ last_or_push (status_message []) (next_of b ask) b.answers
 next_is_last b ask false e =
-    let past : length b.arrived ≤ b.given = ltb-false _ _ e in
+    let past : length b.arrived ≤ b.gone = ltb-false _ _ e in
     ap last_of (cond-false _ _ _ e) ∙ last_or_push (status_message []) (status_now b ask) b.answers
-    ∙ sym (ap (λ (o : Option Message). unwrap_or o (status_now b ask)) (slice_get_past b.arrived b.given past))
+    ∙ sym (ap (λ (o : Option Message). unwrap_or o (status_now b ask)) (slice_get_past b.arrived b.gone past))
 
 dispensed_at : (b : outbox.Account) (ask : Ask) (again : Bool) → is_last ask ≡ again → last_of (after_dispense b ask) ≡ dispensed b ask
 dispensed_at b ask true e = rw e refl
-dispensed_at b ask false e = rw e (next_is_last b ask (nat_lt b.given (length b.arrived)) refl)
+dispensed_at b ask false e = rw e (next_is_last b ask (nat_lt b.gone (length b.arrived)) refl)
 
 -- what QUEUED_MESSAGE gave is the last message
 pub dispensed_is_last : (b : outbox.Account) (ask : Ask) → last_of (after_dispense b ask) ≡ dispensed b ask
@@ -127,15 +128,15 @@ status_is_last b ask = status_at b ask (is_last ask) refl
 
 -- ---- how many wait
 
-next_fewer : (b : outbox.Account) (ask : Ask) (more : Bool) → nat_lt b.given (length b.arrived) ≡ more → length (waiting_of b) - 1 ≤ length (waiting_of (after_next b ask))
+next_fewer : (b : outbox.Account) (ask : Ask) (more : Bool) → nat_lt b.gone (length b.arrived) ≡ more → length (waiting_of b) - 1 ≤ length (waiting_of (after_next b ask))
 next_fewer b ask true e =
-    subst (λ (c : outbox.Account). length (waiting_of b) - 1 ≤ length (waiting_of c)) (sym (cond-true _ _ _ e)) (omega (arith, length-drop b.given b.arrived, length-drop (b.given + 1) b.arrived))
+    subst (λ (c : outbox.Account). length (waiting_of b) - 1 ≤ length (waiting_of c)) (sym (cond-true _ _ _ e)) (omega (arith, length-drop b.gone b.arrived, length-drop (b.gone + 1) b.arrived))
 next_fewer b ask false e =
     subst (λ (c : outbox.Account). length (waiting_of b) - 1 ≤ length (waiting_of c)) (sym (cond-false _ _ _ e)) (omega arith)
 
 dispense_fewer : (b : outbox.Account) (ask : Ask) (again : Bool) → is_last ask ≡ again → length (waiting_of b) - 1 ≤ length (waiting_of (after_dispense b ask))
 dispense_fewer b ask true e = rw e (omega arith)
-dispense_fewer b ask false e = rw e (next_fewer b ask (nat_lt b.given (length b.arrived)) refl)
+dispense_fewer b ask false e = rw e (next_fewer b ask (nat_lt b.gone (length b.arrived)) refl)
 
 pub status_waits : (b : outbox.Account) (ask : Ask) (again : Bool) → is_last ask ≡ again → length (waiting_of b) ≤ length (waiting_of (outbox_after b (Status ask)))
 status_waits b ask true e = rw e (omega arith)

@@ -9,7 +9,7 @@ use Rattle.rdm_frame.specs.declared.message.Message.{Message}
 use Rattle.rdm_frame.specs.Addressing.{same_uid}
 use Rattle.rdm_frame.specs.Discovery.{branch_reply}
 use Rattle.rdm_frame.specs.Reading.{frame_in}
-use Rattle.rdm_responder.specs.History.{Event, Heard, Arrived, Changed, Placed, Noted, Restored, History, then_event}
+use Rattle.rdm_responder.specs.History.{Event, Heard, Arrived, Changed, Placed, Noted, Restored, Dropped, History, then_event}
 use Rattle.rdm_responder.specs.Requests.{request_of}
 use Rattle.rdm_responder.specs.Rules.{reply_of}
 use Rattle.rdm_judge.specs.declared.asked.Asked.{Asked}
@@ -29,7 +29,8 @@ pub record Exchange : Type 0 where
 -- ---- the captures of a fixture
 
 -- What a capture doesn't show: jobs end, somebody turns the menu, the firmware places, notes and restores. All bytes that the fixture may
--- have heard are in the capture. It isn't switched off meanwhile, since a history begins when it is switched on.
+-- have heard are in the capture. It isn't switched off meanwhile, since a history begins when it is switched on. Its firmware drops no
+-- message: a count that falls by itself is one of the faults that the judge looks for.
 abbrev pub is_unseen : Event → Bool
 is_unseen (Heard bytes) = false
 is_unseen (Arrived report) = true
@@ -37,6 +38,7 @@ is_unseen (Changed change) = true
 is_unseen (Placed sub pid bytes) = true
 is_unseen (Noted entry) = true
 is_unseen (Restored image) = true
+is_unseen Dropped = false
 
 -- and then these happen
 abbrev pub then_events : History → List Event → History

@@ -94,7 +94,7 @@ fn on_rule(rule: Option<Rule>) -> Verdict
     }
 }
 
-/// The same of a mute, of whose response nothing hangs on what the device keeps (E1.20 section 7.6).
+/// The same of a mute, whose response doesn't depend on what the device keeps (E1.20 section 7.6).
 fn on_mute(verdict: Verdict) -> Verdict
     ensures { result ≡ on_mute verdict }
 {

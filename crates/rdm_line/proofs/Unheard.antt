@@ -13,7 +13,7 @@ use Rattle.rdm_frame.specs.declared.frame.Frame.{Frame}
 use Rattle.rdm_frame.specs.Addressing.{is_addressed}
 use Rattle.rdm_frame.specs.FrameText.{frame_text, head_slots}
 use Rattle.rdm_frame.specs.Reading.{frame_in, frame_of, uid_at}
-use Rattle.rdm_responder.specs.History.{Setup, Event, Heard, Arrived, Changed, Placed, Noted, Restored, History, then_event}
+use Rattle.rdm_responder.specs.History.{Setup, Event, Heard, Arrived, Changed, Placed, Noted, Restored, Dropped, History, then_event}
 use Rattle.rdm_responder.specs.Requests.{Request, Ignored, Branch, Muting, Get, Set, request_in, request_of}
 use Rattle.rdm_responder.specs.Rules.{Account, account_of, account_before, account_after, account_with, answer_to, reply_of}
 use Rattle.rdm_responder.proofs.Accounts.{account_of-then}
@@ -36,6 +36,7 @@ event_keeps a (Changed change) = refl
 event_keeps a (Placed sub pid bytes) = refl
 event_keeps a (Noted entry) = refl
 event_keeps a (Restored image) = refl
+event_keeps a Dropped = refl
 
 events_keep : (a : Account) (es : List Event) → (fold account_after a es).setup ≡ a.setup
 events_keep a [] = refl

@@ -128,7 +128,8 @@ pub(crate) fn test_through<'a, H: Host, P: Port, F: Write>(
     results.end()
 }
 
-/// Plays a script, if the device has what it needs, and tells what came of it.
+/// Plays a script, if the device has what it needs, and tells what came of it. A remark in the trace names the script, and says it if it is
+/// left out.
 fn try_one<'a, H: Host, P: Port, F: Write>(
     console: &mut Console<'a, H, P, F>,
     mailbox: &mut Mailbox,
@@ -145,9 +146,11 @@ fn try_one<'a, H: Host, P: Port, F: Write>(
         ..
     } = &trial.play;
     let needs = trial.needs.as_slice();
+    console.port.keep_remark(name)?;
     if let Some(need) = equipment.unmet(console, mailbox, needs)? {
         let lack = equipment.lack(alloc, need)?;
         let report = results.leave_out(alloc, name, lack.as_str())?;
+        console.port.keep_remark(report.as_str().trim_end())?;
         return teller.tell(report.as_bytes());
     }
     console.port.log().judge();

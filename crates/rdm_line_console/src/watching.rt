@@ -51,7 +51,8 @@ fn begin<'a, H: Host, P: Port, F: Write>(
 ) -> Result<(), Fault<'a>> {
     let alloc = console.teller.rt().alloc();
     for uid in uids {
-        tell_of(console, *uid, "is watched")?;
+        let line = format!(in alloc; "watching {uid}\n")?;
+        console.teller.tell(line.as_bytes())?;
         watched.push(Watched {
             mailbox: Mailbox::new(alloc, CONSOLE, *uid, Want::Advisory),
             state: State::Answers,

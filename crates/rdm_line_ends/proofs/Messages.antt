@@ -20,9 +20,9 @@ use Rattle.rdm_params.specs.Jobs.Thresholds.{notes}
 use Rattle.rdm_params.specs.Jobs.Work.{worker_at}
 use Rattle.rdm_outbox.specs.Account as outbox
 use Rattle.rdm_outbox.specs.Jobs.{has_room, after_arrive}
-use Rattle.rdm_outbox.specs.Messages.{is_last, last_or, last_of, next_of, after_next, dispensed, status_dispensed}
+use Rattle.rdm_outbox.specs.Messages.{is_last, last_or, last_of, next_of, after_next, after_drop, dispensed, status_dispensed}
 use Rattle.rdm_outbox.specs.Statuses.{can_note, after_note, status_message, status_now, after_status_now}
-use Rattle.rdm_responder.specs.History.{Event, Heard, Arrived, Changed, Placed, Noted, Restored, History}
+use Rattle.rdm_responder.specs.History.{Event, Heard, Arrived, Changed, Placed, Noted, Restored, Dropped, History}
 use Rattle.rdm_responder.specs.Requests.{Request, Ignored, Branch, Muting, Get, Set, request_in}
 use Rattle.rdm_responder.specs.Rules.{Account, account_of, account_before, account_after, account_with, outbox_after, after_message, after_entry, after_outcome}
 use Rattle.rdm_responder.specs.Runs.{outbox_of}
@@ -60,7 +60,7 @@ last_given b are = last_is (status_message []) b.answers refl are.answers
 
 pub dispensed_is : (b : outbox.Account) (ask : Ask) → AreResponses b → IsResponse (dispensed b ask)
 dispensed_is b ask are =
-    either (is_last ask) (last_of b) (next_of b ask) (last_given b are) (next_is b.arrived b.given (status_now b ask) are.arrived refl)
+    either (is_last ask) (last_of b) (next_of b ask) (last_given b are) (next_is b.arrived b.gone (status_now b ask) are.arrived refl)
 
 pub status_is : (b : outbox.Account) (ask : Ask) → AreResponses b → IsResponse (status_dispensed b ask)
 status_is b ask are = either (is_last ask) (last_of b) (status_now b ask) (last_given b are) refl
@@ -82,8 +82,8 @@ status_given b ask are = record { arrived = are.arrived; answers = all_push b.an
 
 next_given : (b : outbox.Account) (ask : Ask) → AreResponses b → AreResponses (after_next b ask)
 next_given b ask are =
-    if_so (nat_lt b.given (length b.arrived)) _ (after_status_now b ask)
-    (record { arrived = are.arrived; answers = all_push b.answers (next_of b ask) are.answers (next_is b.arrived b.given (status_now b ask) are.arrived refl) })
+    if_so (nat_lt b.gone (length b.arrived)) _ (after_status_now b ask)
+    (record { arrived = are.arrived; answers = all_push b.answers (next_of b ask) are.answers (next_is b.arrived b.gone (status_now b ask) are.arrived refl) })
     (status_given b ask are)
 
 carried_out : (b : outbox.Account) (v : Verdict) → AreResponses b → AreResponses (outbox_after b v)
@@ -102,6 +102,9 @@ requested a (Get f) are = carried_out a.outbox (got a.parameters f.sub f.pid f.b
 requested a (Set f) are = carried_out a.outbox (answer_to_set a.parameters f.sub f.pid f.body) are
 
 -- ---- other events
+
+dropped_one : (b : outbox.Account) → AreResponses b → AreResponses (after_drop b)
+dropped_one b are = if_so (nat_lt b.gone (length b.arrived)) _ b (same b _ refl refl are) are
 
 noted : (p : Parameters) (b : outbox.Account) (entry : StatusEntry) → AreResponses b → AreResponses (after_entry p b entry)
 noted p b entry are = if_so (notes p entry) (after_note b entry) b (if_so (can_note b) _ b (same b _ refl refl are) are) are
@@ -151,6 +154,7 @@ happened a (Changed change) are = posted a.outbox (change_message a.parameters c
 happened a (Placed sub pid bytes) are = are
 happened a (Noted entry) are = noted a.parameters a.outbox entry are
 happened a (Restored image) are = are
+happened a Dropped are = dropped_one a.outbox are
 
 all_happened : (a : Account) (es : List Event) → AreResponses a.outbox → AreResponses (fold account_after a es).outbox
 all_happened a [] are = are

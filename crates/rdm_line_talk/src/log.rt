@@ -8,6 +8,7 @@ use rdm_host::fault::Fault;
 use rdm_host::host::Speaker;
 use rdm_trace::{Line, put_line};
 use rdm_words::{Before, put_line_words};
+use std::alloc::{AllocError, Global};
 use std::io::Write;
 use std::time::Instant;
 
@@ -86,6 +87,23 @@ impl<'a, H: Speaker, F: Write> Log<'a, H, F> {
     pub fn keep(&mut self, line: Line) -> Result<(), NotKept> {
         match self.write(&line) {
             Ok(()) => self.remember(line),
+            Err(fault) => self.fail(fault),
+        }
+    }
+
+    /// Keeps a remark in the file, if there is one, as a line that readers of a trace pass over. It is neither printed nor judged. A control
+    /// character in it is kept as `?`, so that it is one line.
+    pub fn keep_remark(&mut self, words: &str) -> Result<(), NotKept> {
+        let alloc = self.teller.rt().alloc();
+        let Some(kept_in) = &mut self.kept_in else {
+            return Ok(());
+        };
+        let kept = match remark_of(alloc, words) {
+            Ok(line) => kept_in.keep_remark(line.as_slice()),
+            Err(error) => Err(Fault::from(error)),
+        };
+        match kept {
+            Ok(()) => Ok(()),
             Err(fault) => self.fail(fault),
         }
     }
@@ -182,4 +200,16 @@ impl<'a, H: Speaker, F: Write> Log<'a, H, F> {
         self.fault = Some(fault);
         Err(NotKept)
     }
+}
+
+/// The line of a remark: a number sign, a space and these words.
+fn remark_of(alloc: Global, words: &str) -> Result<Vec<u8>, AllocError> {
+    let mut line = Vec::new(alloc);
+    line.extend_from_slice(b"# ")?;
+    for byte in words.as_bytes() {
+        let is_control = *byte < b' ' || *byte == 0x7F;
+        line.extend_from_slice(&[if is_control { b'?' } else { *byte }])?;
+    }
+    line.extend_from_slice(b"\n")?;
+    Ok(line)
 }

@@ -53,6 +53,14 @@ impl<'a, H: Speaker, P: Port, F: Write> Recorder<'a, H, P, F> {
         }
     }
 
+    /// Keeps a remark in the file of the trace, if there is one.
+    pub fn keep_remark(&mut self, words: &str) -> Result<(), PortError> {
+        match self.log.keep_remark(words) {
+            Ok(()) => Ok(()),
+            Err(NotKept) => Err(PortError::Write),
+        }
+    }
+
     /// Keeps a line of the trace.
     pub fn keep(&mut self, line: Line) -> Result<(), PortError> {
         keep(&mut self.log, line)

@@ -66,6 +66,14 @@ impl<'a, F: Write> TraceFile<'a, F> {
         self.write(packet.as_slice())
     }
 
+    /// Keeps a remark, which is this line. A capture has none.
+    pub(crate) fn keep_remark(&mut self, line: &[u8]) -> Result<(), Fault<'a>> {
+        match self.kept {
+            Kept::Lines => self.write(line),
+            Kept::Capture(_) => Ok(()),
+        }
+    }
+
     /// Writes these bytes.
     fn write(&mut self, bytes: &[u8]) -> Result<(), Fault<'a>> {
         match self.file.write_all(bytes) {

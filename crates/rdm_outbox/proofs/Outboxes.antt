@@ -1,8 +1,8 @@
 -- Outboxes that show an account, and go on showing it.
 use Rattle.std.proofs.Common.{◌≡◌, ℕ, ◌<◌, ◌+◌, ◌-◌, ◌≤◌, Bool, true, false, cond, List, [], ◌∷◌, ◌++◌, length, get_or, drop, refl, sym, ap, subst, ◌∙◌, add-zero, length-append, arith}
-use Rattle.std.specs.Prelude.{◌==◌, Some, None, unwrap_or}
+use Rattle.std.specs.Prelude.{◌==◌, nat_lt, Some, None, unwrap_or}
 use Rattle.std.specs.List.{slice_get}
-use Rattle.std.proofs.lemmas.Bool.{lt-ltb, le-ltb, eqb-true}
+use Rattle.std.proofs.lemmas.Bool.{lt-ltb, le-ltb, ltb-true, ltb-false, eqb-true}
 use Rattle.std.proofs.lemmas.Option.{slice_get_past, slice_get_within, get_or_from_slice_get, unwrap_or-slice_get}
 use Rattle.std.proofs.lemmas.List.{get_or-drop, length-drop, drop-drop, drop-append-le}
 use Rattle.std.proofs.lemmas.List.Sums.{sum_by-append}
@@ -12,7 +12,7 @@ use Rattle.rdm_commands.specs.declared.jobs.ask.Ask.{Ask}
 use Rattle.rdm_outbox.specs.Account.{Account}
 use Rattle.rdm_outbox.specs.declared.job.Job.{Job}
 use Rattle.rdm_outbox.specs.Jobs.{jobs_of, ended_of, after_arrive}
-use Rattle.rdm_outbox.specs.Messages.{last_or, next_of, after_next}
+use Rattle.rdm_outbox.specs.Messages.{last_or, next_of, after_next, after_drop}
 use Rattle.rdm_outbox.specs.Shows.{Shows}
 use Rattle.rdm_outbox.specs.State.{State, jobs_at}
 use Rattle.rdm_outbox.specs.Statuses.{after_clear, others, first_asked, status_message, status_now, after_status_now}
@@ -28,7 +28,7 @@ slice_get_none : (xs : List Message) → slice_get xs 0 ≡ None → xs ≡ []
 slice_get_none [] none = refl
 slice_get_none (x ∷ xs) none = absurd (cc)
 
--- the first that waits is the one after those that were given
+-- the first that waits is the one after those that have left the queue
 pub first_next : (xs : List Message) (n : ℕ) (m : Message) → unwrap_or (slice_get xs n) m ≡ get_or (drop n xs) 0 m
 first_next xs n m = unwrap_or-slice_get xs n m ∙ sym (get_or-drop n xs 0 m ∙ ap (λ (k : ℕ). get_or xs k m) (omega arith))
 
@@ -53,30 +53,41 @@ shows_status s a ask h = record {
 }
 
 -- how many messages wait
-waiting_count : (s : State) (a : Account) → Shows s a → length s.queue + a.given ≡ length a.arrived
-waiting_count s a h = rw (h.queue, length-drop a.given a.arrived) (omega (arith, h.within))
+waiting_count : (s : State) (a : Account) → Shows s a → length s.queue + a.gone ≡ length a.arrived
+waiting_count s a h = rw (h.queue, length-drop a.gone a.arrived) (omega (arith, h.within))
+
+-- nothing can be dropped from a list with no items
+drop_none : (ms : List Message) → length ms ≡ 0 → drop 1 ms ≡ ms
+drop_none [] none = refl
+drop_none (m ∷ ms) none = absurd (omega (arith, none))
+
+-- where none waits, dropping the first changes nothing
+pub drop_of_none : (s t : State) → slice_get s.queue 0 ≡ None → s ≡ t → record s { queue = drop 1 s.queue } ≡ t
+drop_of_none s t none same =
+    let empty : s.queue ≡ [] = slice_get_none s.queue none in
+    ap (λ (ms : List Message). record s { queue = ms }) (ap (drop 1) empty ∙ sym empty) ∙ same
 
 -- where none waits, the next message is the status message
 pub shows_none : (s : State) (a : Account) (ask : Ask) → Shows s a → slice_get s.queue 0 ≡ None → Shows (record s { queue = drop 1 s.queue; unshown = others 25 ask s.unshown; last = status_message (first_asked 25 ask s.unshown) }) (after_next a ask)
 shows_none s a ask h none =
     let empty : s.queue ≡ [] = slice_get_none s.queue none in
     let rest : drop 1 s.queue ≡ s.queue = ap (drop 1) empty ∙ sym empty in
-    rw (rest, le-ltb a.given (length a.arrived) (omega (arith, waiting_count s a h, ap length empty))) (shows_status s a ask h)
+    rw (rest, le-ltb a.gone (length a.arrived) (omega (arith, waiting_count s a h, ap length empty))) (shows_status s a ask h)
 
 pub next_none : (s : State) (a : Account) (ask : Ask) → Shows s a → slice_get s.queue 0 ≡ None → status_message (first_asked 25 ask s.unshown) ≡ next_of a ask
 next_none s a ask h none =
     let empty : s.queue ≡ [] = slice_get_none s.queue none in
-    rw (slice_get_past a.arrived a.given (omega (arith, waiting_count s a h, ap length empty))) (ap (λ (es : List Entry). status_message (first_asked 25 ask es)) h.unshown)
+    rw (slice_get_past a.arrived a.gone (omega (arith, waiting_count s a h, ap length empty))) (ap (λ (es : List Entry). status_message (first_asked 25 ask es)) h.unshown)
 
 -- where one waits, the first is the next message, and becomes the last one
 pub next_first : (s : State) (a : Account) (ask : Ask) (m : Message) → Shows s a → slice_get s.queue 0 ≡ Some m → m ≡ next_of a ask
 next_first s a ask m h is_first =
-    sym (get_or_from_slice_get s.queue 0 m (status_now a ask) is_first) ∙ ap (λ (ms : List Message). get_or ms 0 (status_now a ask)) h.queue ∙ sym (first_next a.arrived a.given (status_now a ask))
+    sym (get_or_from_slice_get s.queue 0 m (status_now a ask) is_first) ∙ ap (λ (ms : List Message). get_or ms 0 (status_now a ask)) h.queue ∙ sym (first_next a.arrived a.gone (status_now a ask))
 
 pub shows_first : (s : State) (a : Account) (ask : Ask) (m : Message) → Shows s a → slice_get s.queue 0 ≡ Some m → Shows (record s { queue = drop 1 s.queue; last = m }) (after_next a ask)
 shows_first s a ask m h is_first =
     let some : 0 < length s.queue = slice_get_within s.queue 0 m is_first in
-    rw (lt-ltb a.given (length a.arrived) (omega (arith, waiting_count s a h, some))) (record {
+    rw (lt-ltb a.gone (length a.arrived) (omega (arith, waiting_count s a h, some))) (record {
       q = h.q;
       jobs = h.jobs;
       entries = h.entries;
@@ -88,11 +99,38 @@ shows_first s a ask m h is_first =
       second_given = h.second_given;
       first_ended = h.first_ended;
       second_ended = h.second_ended;
-      queue = ap (drop 1) h.queue ∙ drop-drop 1 a.given a.arrived;
+      queue = ap (drop 1) h.queue ∙ drop-drop 1 a.gone a.arrived;
       within = omega (arith, waiting_count s a h, some);
       unshown = h.unshown;
       last = next_first s a ask m h is_first ∙ sym (last_or_push (status_message []) (next_of a ask) a.answers);
     })
+
+-- the oldest message that waits is dropped, or there is none
+drops : (s : State) (a : Account) (some : Bool) → nat_lt a.gone (length a.arrived) ≡ some → Shows s a → Shows (record s { queue = drop 1 s.queue }) (cond some (record a { gone = a.gone + 1 }) a)
+drops s a true e h = record {
+  q = h.q;
+  jobs = h.jobs;
+  entries = h.entries;
+  first_job = h.first_job;
+  workers = h.workers;
+  first = h.first;
+  second = h.second;
+  first_given = h.first_given;
+  second_given = h.second_given;
+  first_ended = h.first_ended;
+  second_ended = h.second_ended;
+  queue = ap (drop 1) h.queue ∙ drop-drop 1 a.gone a.arrived;
+  within = let less : a.gone < length a.arrived = ltb-true _ _ e in omega arith;
+  unshown = h.unshown;
+  last = h.last;
+}
+drops s a false e h =
+    let past : length a.arrived ≤ a.gone = ltb-false _ _ e in
+    let none : length s.queue ≡ 0 = omega (arith, waiting_count s a h, past) in
+    subst (λ (ms : List Message). Shows (record s { queue = ms }) a) (sym (drop_none s.queue none)) h
+
+pub shows_drop : (s : State) (a : Account) → Shows s a → Shows (record s { queue = drop 1 s.queue }) (after_drop a)
+shows_drop s a h = drops s a (nat_lt a.gone (length a.arrived)) refl h
 
 -- jobs that have ended
 pub ended_sum : (worker w : ℕ) (ws : List ℕ) → ended_of worker (ws ++ w ∷ []) ≡ ended_of worker ws + ended_of worker (w ∷ [])
@@ -121,7 +159,7 @@ first_ends s a m h some =
       second_given = h.second_given;
       first_ended = rw one (within_more (ended_of 0 a.ended) (jobs_of a.workers 0 a.accepted) (rw (← h.first) some));
       second_ended = rw none h.second_ended;
-      queue = ap (λ (ms : List Message). ms ++ m ∷ []) h.queue ∙ sym (drop-append-le a.given a.arrived (m ∷ []) h.within);
+      queue = ap (λ (ms : List Message). ms ++ m ∷ []) h.queue ∙ sym (drop-append-le a.gone a.arrived (m ∷ []) h.within);
       within = rw (length-append a.arrived (m ∷ [])) (omega (arith, h.within));
       unshown = h.unshown;
       last = h.last;
@@ -143,7 +181,7 @@ second_ends s a m h some =
       second_given = h.second_given;
       first_ended = rw none h.first_ended;
       second_ended = rw one (within_more (ended_of 1 a.ended) (jobs_of a.workers 1 a.accepted) (rw (← h.second) some));
-      queue = ap (λ (ms : List Message). ms ++ m ∷ []) h.queue ∙ sym (drop-append-le a.given a.arrived (m ∷ []) h.within);
+      queue = ap (λ (ms : List Message). ms ++ m ∷ []) h.queue ∙ sym (drop-append-le a.gone a.arrived (m ∷ []) h.within);
       within = rw (length-append a.arrived (m ∷ [])) (omega (arith, h.within));
       unshown = h.unshown;
       last = h.last;

@@ -14,8 +14,9 @@ pub record Noted : Type 0 where
 
 -- The greatest number of jobs and messages together, of jobs for each worker, and of entries that wait to be shown; the
 -- number of each worker's first job; which worker carries out which work; the jobs that were accepted; the workers whose
--- jobs have ended, one for each; the messages that arrived, and how many of them were given to the controller; the status
--- entries; and the answers to QUEUED_MESSAGE and STATUS_MESSAGES, repeats left out. All of them in order of time.
+-- jobs have ended, one for each; the messages that arrived, and how many of them have left the queue, since the controller
+-- fetched them or the firmware dropped them; the status entries; and the answers to QUEUED_MESSAGE and STATUS_MESSAGES,
+-- repeats left out. All of them in order of time.
 pub record Account : Type 0 where
   pub q : ℕ
   pub jobs : ℕ
@@ -25,7 +26,7 @@ pub record Account : Type 0 where
   pub accepted : List Job
   pub ended : List ℕ
   pub arrived : List Message
-  pub given : ℕ
+  pub gone : ℕ
   pub noted : List Noted
   pub answers : List Message
 
@@ -40,7 +41,7 @@ account_before settings = record {
   accepted = [];
   ended = [];
   arrived = [];
-  given = 0;
+  gone = 0;
   noted = [];
   answers = [];
 }

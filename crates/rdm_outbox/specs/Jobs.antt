@@ -24,9 +24,9 @@ outstanding_of a worker = drop (ended_of worker a.ended) (jobs_of a.workers work
 abbrev pub outstanding_count : Account → ℕ
 outstanding_count a = length (outstanding_of a 0) + length (outstanding_of a 1)
 
--- the messages that wait: those that arrived, without as many of the first as were given
+-- the messages that wait: those that arrived, without as many of the first as have left the queue
 abbrev pub waiting_of : Account → List Message
-waiting_of a = drop a.given a.arrived
+waiting_of a = drop a.gone a.arrived
 
 -- how many jobs a worker was given
 abbrev pub given_to : ℕ → Account → ℕ

@@ -25,19 +25,24 @@ last_or m (x ∷ xs) = last_or x xs
 abbrev pub last_of : Account → Message
 last_of a = last_or (status_message []) a.answers
 
--- The next message: the first that waits, which is the one after those that were given. If none waits, it is the
+-- The next message: the first that waits, which is the one after those that have left the queue. If none waits, it is the
 -- status message.
 abbrev pub next_of : Account → Ask → Message
-next_of a ask = unwrap_or (slice_get a.arrived a.given) (status_now a ask)
+next_of a ask = unwrap_or (slice_get a.arrived a.gone) (status_now a ask)
 
 abbrev pub after_next : Account → Ask → Account
 after_next a ask =
-    if nat_lt a.given (length a.arrived) then record a { given = a.given + 1; answers = a.answers ++ next_of a ask ∷ [] }
+    if nat_lt a.gone (length a.arrived) then record a { gone = a.gone + 1; answers = a.answers ++ next_of a ask ∷ [] }
     else after_status_now a ask
 
 -- The account after a message was posted that tells of no job. No job ends by it.
 abbrev pub after_post : Account → Message → Account
 after_post a message = record a { arrived = a.arrived ++ message ∷ [] }
+
+-- The account after the firmware dropped the oldest message that waits. It was no answer, so no controller knows it. If none
+-- waits, nothing changes.
+abbrev pub after_drop : Account → Account
+after_drop a = if nat_lt a.gone (length a.arrived) then record a { gone = a.gone + 1 } else a
 
 -- the answer to QUEUED_MESSAGE, and the account after it
 abbrev pub dispensed : Account → Ask → Message

@@ -7,7 +7,7 @@ use Rattle.rdm_outbox.specs.State.{State}
 use Rattle.rdm_outbox.specs.Statuses.{unshown}
 
 -- The state has the bounds of the account, its first number and its choice of workers, and is what its lists come to. No
--- worker has ended more jobs than it was given, and no more messages were given than arrived.
+-- worker has ended more jobs than it was given, and no more messages have left the queue than arrived.
 pub record Shows (s : State) (a : Account) : Type 0 where
   pub q : s.q ≡ a.q
   pub jobs : s.jobs ≡ a.jobs
@@ -21,6 +21,6 @@ pub record Shows (s : State) (a : Account) : Type 0 where
   pub first_ended : ended_of 0 a.ended ≤ length (jobs_of a.workers 0 a.accepted)
   pub second_ended : ended_of 1 a.ended ≤ length (jobs_of a.workers 1 a.accepted)
   pub queue : s.queue ≡ waiting_of a
-  pub within : a.given ≤ length a.arrived
+  pub within : a.gone ≤ length a.arrived
   pub unshown : s.unshown ≡ unshown a.noted
   pub last : s.last ≡ last_of a

@@ -1,15 +1,15 @@
 //! The outbox.
 
-ghost use Rattle.std.specs.Prelude.{◌≡◌, ◌↔◌, ◌<◌, ◌≤◌, ◌+◌, [], ◌∷◌, ◌++◌, not, length, min, IsTrue, IfOk, IfSome, MatchOption, Err, slice_get, option_copied};
+ghost use Rattle.std.specs.Prelude.{◌≡◌, ◌↔◌, ◌<◌, ◌≤◌, ◌+◌, [], ◌∷◌, ◌++◌, not, length, min, drop, IsTrue, None, IfOk, IfSome, MatchOption, Err, slice_get, option_copied};
 ghost use Rattle.circular_buffer.specs.Buffer.{buffer};
 ghost use Rattle.rdm_outbox.specs.Account.{Account, account_before};
 ghost use Rattle.rdm_outbox.specs.Jobs.{outstanding_of, outstanding_count, waiting_of, has_place, reserved, after_reserve, after_arrive};
-ghost use Rattle.rdm_outbox.specs.Messages.{is_last, last_of, next_of, after_next, after_post, dispensed, after_dispense, status_dispensed, after_status};
+ghost use Rattle.rdm_outbox.specs.Messages.{is_last, last_of, next_of, after_next, after_post, after_drop, dispensed, after_dispense, status_dispensed, after_status};
 ghost use Rattle.rdm_outbox.specs.Shows.{Shows};
 ghost use Rattle.rdm_outbox.specs.Settings.{IsGood, usual_settings};
 ghost use Rattle.rdm_outbox.specs.State.{jobs_at, place_in};
 ghost use Rattle.rdm_params.specs.Jobs.Work.{worker_at};
-ghost use Rattle.rdm_outbox.specs.Statuses.{after_clear, can_note, after_note, status_now, after_status_now};
+ghost use Rattle.rdm_outbox.specs.Statuses.{after_clear, can_note, after_note, status_now, after_status_now, unshown};
 
 use crate::giving::give;
 use crate::kept::{KeptEntry, keep};
@@ -109,6 +109,22 @@ impl Outbox {
         ensures account { (a : Account) → Shows self.now a → result ≡ length (waiting_of a) }
     {
         self.queue.len()
+    }
+
+    /// A message that waits: the oldest has the index 0. It is `None` if no more wait.
+    pub fn waiting_at(&self, index: usize) -> Option<&Message>
+        ensures queue { option_copied result ≡ slice_get self.now.queue index }
+        ensures account { (a : Account) → Shows self.now a → option_copied result ≡ slice_get (waiting_of a) index }
+    {
+        self.queue.get(index)
+    }
+
+    /// How many status entries wait to be shown.
+    pub fn unshown(&self) -> usize
+        ensures entries { result ≡ length self.now.unshown }
+        ensures account { (a : Account) → Shows self.now a → result ≡ length (unshown a.noted) }
+    {
+        self.unshown.len()
     }
 
     /// How many jobs are outstanding.
@@ -246,6 +262,17 @@ impl Outbox {
     {
         // By the condition there is room, so no message is overwritten.
         put(&mut self.queue, message);
+    }
+
+    /// Drops the oldest message that waits, and returns it: no controller gets it. The last message stays. It is `None`, and
+    /// nothing changes, if no message waits.
+    pub fn drop_oldest(&mut self) -> Option<Message>
+        ensures message { (a : Account) → Shows self.old a → result ≡ slice_get (waiting_of a) 0 }
+        ensures shows { (a : Account) → Shows self.old a → Shows self.new (after_drop a) }
+        ensures state { self.new ≡ record self.old { queue = drop 1 self.old.queue } }
+        ensures same { result ≡ None → self.new ≡ self.old }
+    {
+        self.queue.pop_front()
     }
 
     /// Clears the status list (E1.20 section 10.3.4): no entry that was kept will be shown. The queue, the last message

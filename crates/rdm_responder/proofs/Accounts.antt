@@ -4,7 +4,7 @@ use Rattle.std.specs.Prelude.{fold}
 use Rattle.std.proofs.lemmas.List.Sums.{fold_push}
 use Rattle.rdm_frame.specs.declared.frame.Frame.{Frame}
 use Rattle.rdm_frame.specs.Reading.{frame_in}
-use Rattle.rdm_responder.specs.History.{Setup, Event, Heard, Arrived, Changed, Placed, Noted, Restored, History, empty_history, then_event}
+use Rattle.rdm_responder.specs.History.{Setup, Event, Heard, Arrived, Changed, Placed, Noted, Restored, Dropped, History, empty_history, then_event}
 use Rattle.rdm_responder.specs.Requests.{Request, Ignored, Branch, Muting, Get, Set, request_in}
 use Rattle.rdm_responder.specs.Rules.{Account, account_of, account_before, account_after, account_with}
 use Rattle.rdm_responder.specs.StandsFor.{State, Shows, StandsFor}
@@ -50,6 +50,7 @@ setup_after a (Changed change) = refl
 setup_after a (Placed sub pid bytes) = refl
 setup_after a (Noted entry) = refl
 setup_after a (Restored image) = refl
+setup_after a Dropped = refl
 
 setup_after_all : (a : Account) (events : List Event) → (fold account_after a events).setup ≡ a.setup
 setup_after_all a [] = refl

@@ -1,5 +1,5 @@
--- A change at the fixture's own menu, a value that is placed, an entry that is noted and values that are restored, and what
--- they make of an account.
+-- A change at the fixture's own menu, a value that is placed, an entry that is noted, values that are restored and a message
+-- that is dropped, and what they make of an account.
 use Rattle.std.proofs.Common.{◌≡◌, ℕ, List, Option, None, Result, Ok, Err, refl, sym, ap, subst, ◌∙◌}
 use Rattle.std.specs.Prelude.{IsOk, OnOk, OnErr}
 use Rattle.std.specs.Result.{result_err}
@@ -11,9 +11,10 @@ use Rattle.rdm_params.specs.Commands.Placing.{after_place}
 use Rattle.rdm_params.specs.Commands.Saving.{powered_on}
 use Rattle.rdm_saved.specs.Restoring.{restored}
 use Rattle.rdm_params.specs.Device.Parameters.{Parameters}
+use Rattle.rdm_outbox.specs.Messages.{after_drop}
 use Rattle.rdm_outbox.specs.Shows as outbox_state
 use Rattle.rdm_outbox.specs.State as state
-use Rattle.rdm_responder.specs.History.{Placed, Noted, Restored}
+use Rattle.rdm_responder.specs.History.{Placed, Noted, Restored, Dropped}
 use Rattle.rdm_responder.specs.Rules.{Account, account_after, account_after_change, after_entry, after_message}
 use Rattle.rdm_responder.specs.StandsFor.{State, Shows}
 
@@ -31,6 +32,14 @@ shows_place old new a sub pid bytes shows uid parameters muted outbox = record {
   parameters = parameters ∙ ap (λ (p : Parameters). after_place p sub pid bytes) shows.parameters;
   muted = muted ∙ shows.muted;
   outbox = subst (λ (o : state.State). outbox_state.Shows o a.outbox) (sym outbox) shows.outbox;
+}
+
+pub shows_dropping : (old new : State) (a : Account) → Shows old a → new.uid ≡ old.uid → new.parameters ≡ old.parameters → new.muted ≡ old.muted → outbox_state.Shows new.outbox (after_drop a.outbox) → Shows new (account_after a Dropped)
+shows_dropping old new a shows uid parameters muted outbox = record {
+  uid = uid ∙ shows.uid;
+  parameters = parameters ∙ shows.parameters;
+  muted = muted ∙ shows.muted;
+  outbox = outbox;
 }
 
 pub shows_note : (old new : State) (a : Account) (entry : StatusEntry) → Shows old a → new.uid ≡ old.uid → new.parameters ≡ old.parameters → new.muted ≡ old.muted → outbox_state.Shows new.outbox (after_entry old.parameters a.outbox entry) → Shows new (account_after a (Noted entry))

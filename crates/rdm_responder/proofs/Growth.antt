@@ -21,9 +21,9 @@ use Rattle.rdm_outbox.specs.declared.job.Job.{Job}
 use Rattle.rdm_outbox.specs.declared.job.Full.TheVariants.{NoRoom}
 use Rattle.rdm_outbox.specs.Account as outbox
 use Rattle.rdm_outbox.specs.Jobs.{next_job, has_room, after_arrive}
-use Rattle.rdm_outbox.specs.Messages.{is_last, next_of, after_next, after_post}
+use Rattle.rdm_outbox.specs.Messages.{is_last, next_of, after_next, after_post, after_drop}
 use Rattle.rdm_outbox.specs.Statuses.{after_clear, can_note, after_status_now}
-use Rattle.rdm_responder.specs.History.{History, Event, Heard, Arrived, Changed, Placed, Noted, Restored, then_event}
+use Rattle.rdm_responder.specs.History.{History, Event, Heard, Arrived, Changed, Placed, Noted, Restored, Dropped, then_event}
 use Rattle.rdm_responder.specs.Requests.{Request, Ignored, Branch, Muting, Get, Set, request_in}
 use Rattle.rdm_responder.specs.Rules.{Account, account_of, account_after, account_with, job_with, outbox_after, started_by, after_message, after_entry, after_outcome}
 use Rattle.rdm_responder.specs.Runs.{outbox_of}
@@ -67,8 +67,13 @@ shows_statuses b ask = stays b (after_status_now b ask) refl refl refl refl refl
 
 gives_next : (b : outbox.Account) (ask : Ask) → Grows b (after_next b ask) [] []
 gives_next b ask =
-    let next : outbox.Account = record b { given = b.given + 1; answers = b.answers ++ next_of b ask ∷ [] } in
-    either b next (after_status_now b ask) (nat_lt b.given (length b.arrived)) (stays b next refl refl refl refl refl) (shows_statuses b ask)
+    let next : outbox.Account = record b { gone = b.gone + 1; answers = b.answers ++ next_of b ask ∷ [] } in
+    either b next (after_status_now b ask) (nat_lt b.gone (length b.arrived)) (stays b next refl refl refl refl refl) (shows_statuses b ask)
+
+pub dropped_one : (b : outbox.Account) → Grows b (after_drop b) [] []
+dropped_one b =
+    let fewer : outbox.Account = record b { gone = b.gone + 1 } in
+    either b fewer b (nat_lt b.gone (length b.arrived)) (stays b fewer refl refl refl refl refl) (still b)
 
 carries_out : (b : outbox.Account) (v : Verdict) → Grows b (outbox_after b v) (option_to_list (started_by b v)) []
 carries_out b (verdict.Start work) = reserves b (next_job b work) (has_room b work)
@@ -118,6 +123,7 @@ job_at a (Changed change) = None
 job_at a (Placed sub pid bytes) = None
 job_at a (Noted entry) = None
 job_at a (Restored image) = None
+job_at a Dropped = None
 
 abbrev pub workers_at : Account → Event → List ℕ
 workers_at a (Heard bytes) = []
@@ -126,6 +132,7 @@ workers_at a (Changed change) = []
 workers_at a (Placed sub pid bytes) = []
 workers_at a (Noted entry) = []
 workers_at a (Restored image) = []
+workers_at a Dropped = []
 
 pub event_grows : (a : Account) (e : Event) → Grows a.outbox (account_after a e).outbox (option_to_list (job_at a e)) (workers_at a e)
 event_grows a (Heard bytes) = requested a (request_in a.setup.uid (frame_in bytes))
@@ -134,6 +141,7 @@ event_grows a (Changed change) = posted a.outbox (change_message a.parameters ch
 event_grows a (Placed sub pid bytes) = still a.outbox
 event_grows a (Noted entry) = noted_entry a.parameters a.outbox entry
 event_grows a (Restored image) = still a.outbox
+event_grows a Dropped = dropped_one a.outbox
 
 pub grows : (h : History) (e : Event) → Grows (outbox_of h) (outbox_of (then_event h e)) (option_to_list (job_at (account_of h) e)) (workers_at (account_of h) e)
 grows h e =

@@ -23,7 +23,7 @@ use Rattle.rdm_outbox.specs.Account.{Noted}
 use Rattle.rdm_outbox.specs.declared.job.Job.{Job}
 use Rattle.rdm_outbox.specs.Jobs.{jobs_of, ended_of, given_to, has_place, has_room, next_job, outstanding_of, waiting_of, after_arrive}
 use Rattle.rdm_outbox.specs.Laws.{OnlyMarks}
-use Rattle.rdm_outbox.specs.Messages.{is_last, after_next}
+use Rattle.rdm_outbox.specs.Messages.{is_last, after_next, after_drop}
 use Rattle.rdm_outbox.specs.Shows as outbox_shows
 use Rattle.rdm_outbox.specs.State as outbox_state
 use Rattle.rdm_outbox.specs.Settings.{most_waiting}
@@ -32,7 +32,7 @@ use Rattle.rdm_outbox.specs.Statuses.{can_note, most_shown, show, unshown, after
 use Rattle.rdm_outbox.proofs.Entries.{unshown_after_clear}
 use Rattle.rdm_outbox.proofs.Marks.{show_only_marks}
 use Rattle.rdm_responder.specs.History as history
-use Rattle.rdm_responder.specs.History.{Event, Heard, Arrived, Changed, Placed, Restored}
+use Rattle.rdm_responder.specs.History.{Event, Heard, Arrived, Changed, Placed, Restored, Dropped}
 use Rattle.rdm_responder.specs.Lawful.{MayHappen, AreLawful}
 use Rattle.rdm_responder.specs.Laws.{LawfulHistoriesHaveRoom}
 use Rattle.rdm_responder.specs.Requests.{Request, Ignored, Branch, Muting, Get, Set, request_in}
@@ -46,15 +46,15 @@ done_by w b = ended_of w b.ended
 -- what an outbox with this account needs is there
 record Fits (b : outbox.Account) : Type 0 where
   pub most : b.q ≤ most_waiting
-  pub room : given_to 0 b + given_to 1 b + length b.arrived ≤ b.q + done_by 0 b + done_by 1 b + b.given
+  pub room : given_to 0 b + given_to 1 b + length b.arrived ≤ b.q + done_by 0 b + done_by 1 b + b.gone
   pub jobs : (w : ℕ) → given_to w b ≤ b.jobs
   pub unshown : length (unshown b.noted) ≤ b.entries
 
 -- there is a place
-has_a_place : (b : outbox.Account) → IsWithin b → has_place b ≡ true → given_to 0 b + given_to 1 b + length b.arrived < b.q + done_by 0 b + done_by 1 b + b.given
+has_a_place : (b : outbox.Account) → IsWithin b → has_place b ≡ true → given_to 0 b + given_to 1 b + length b.arrived < b.q + done_by 0 b + done_by 1 b + b.gone
 has_a_place b is e =
     let place = ltb-true (length (outstanding_of b 0) + length (outstanding_of b 1) + length (waiting_of b)) b.q e in
-    omega (arith, place, length-drop (done_by 0 b) (jobs_of b.workers 0 b.accepted), length-drop (done_by 1 b) (jobs_of b.workers 1 b.accepted), length-drop b.given b.arrived, is.ended 0, is.ended 1, is.given)
+    omega (arith, place, length-drop (done_by 0 b) (jobs_of b.workers 0 b.accepted), length-drop (done_by 1 b) (jobs_of b.workers 1 b.accepted), length-drop b.gone b.arrived, is.ended 0, is.ended 1, is.given)
 
 -- ---- a job that starts
 
@@ -125,15 +125,20 @@ after_shown b answers n ask fits = record {
   unshown = omega (arith, fewer b.noted (show n ask b.noted) (show_only_marks n ask b.noted), fits.unshown);
 }
 
-gives_next : (b x y : outbox.Account) (c : Bool) → nat_lt b.given (length b.arrived) ≡ c → (b.given < length b.arrived → Fits x) → Fits y → Fits (cond c x y)
-gives_next b x y true e one two = one (ltb-true b.given (length b.arrived) e)
+gives_next : (b x y : outbox.Account) (c : Bool) → nat_lt b.gone (length b.arrived) ≡ c → (b.gone < length b.arrived → Fits x) → Fits y → Fits (cond c x y)
+gives_next b x y true e one two = one (ltb-true b.gone (length b.arrived) e)
 gives_next b x y false e one two = two
 
 after_the_next : (b : outbox.Account) (ask : Ask) → Fits b → Fits (after_next b ask)
 after_the_next b ask fits =
-    gives_next b _ _ (nat_lt b.given (length b.arrived)) refl
+    gives_next b _ _ (nat_lt b.gone (length b.arrived)) refl
     (λ some. record { most = fits.most; room = omega (arith, fits.room); jobs = fits.jobs; unshown = fits.unshown })
     (after_shown b _ most_shown ask fits)
+
+drop_fits : (b : outbox.Account) → IsWithin b → Fits b → Fits (after_drop b)
+drop_fits b is fits =
+    gives_next b _ _ (nat_lt b.gone (length b.arrived)) refl
+    (λ some. record { most = fits.most; room = omega (arith, fits.room); jobs = fits.jobs; unshown = fits.unshown }) fits
 
 verdict_fits : (b : outbox.Account) (v : Verdict) → IsWithin b → Fits b → Fits (outbox_after b v)
 verdict_fits b (Reply bytes) is fits = fits
@@ -197,6 +202,7 @@ event_fits a (Changed change) may is fits = message_fits a.outbox (change_messag
 event_fits a (Placed sub pid bytes) may is fits = fits
 event_fits a (history.Noted entry) may is fits = entry_fits a.parameters a.outbox entry fits
 event_fits a (Restored image) may is fits = fits
+event_fits a Dropped may is fits = drop_fits a.outbox is fits
 
 events_fit : (a : Account) (es : List Event) → AreLawful a es → IsWithin a.outbox → Fits a.outbox → IsWithin (fold account_after a es).outbox × Fits (fold account_after a es).outbox
 events_fit a [] lawful is fits = (is, fits)
@@ -207,7 +213,7 @@ events_fit a (e ∷ es) lawful is fits = events_fit (account_after a e) es lawfu
 room_of : (s : outbox_state.State) (b : outbox.Account) → IsWithin b → Fits b → outbox_shows.Shows s b → HasRoom s
 room_of s b is fits shows = record {
   most = omega (arith, shows.q, fits.most);
-  room = omega (arith, shows.q, fits.room, ap length shows.first ∙ length-drop (done_by 0 b) (jobs_of b.workers 0 b.accepted), ap length shows.second ∙ length-drop (done_by 1 b) (jobs_of b.workers 1 b.accepted), ap length shows.queue ∙ length-drop b.given b.arrived, is.ended 0, is.ended 1, is.given);
+  room = omega (arith, shows.q, fits.room, ap length shows.first ∙ length-drop (done_by 0 b) (jobs_of b.workers 0 b.accepted), ap length shows.second ∙ length-drop (done_by 1 b) (jobs_of b.workers 1 b.accepted), ap length shows.queue ∙ length-drop b.gone b.arrived, is.ended 0, is.ended 1, is.given);
   first_given = omega (arith, shows.first_given, shows.jobs, fits.jobs 0);
   second_given = omega (arith, shows.second_given, shows.jobs, fits.jobs 1);
   unshown = omega (arith, ap length shows.unshown, shows.entries, fits.unshown);

@@ -20,12 +20,12 @@ use Rattle.rdm_params.specs.Jobs.Work.{Choice, worker_at}
 use Rattle.rdm_outbox.specs.Account as outbox
 use Rattle.rdm_outbox.specs.declared.job.Job.{Job}
 use Rattle.rdm_outbox.specs.Jobs.{jobs_of, ended_of, has_room, next_job, outstanding_of, waiting_of, after_arrive}
-use Rattle.rdm_outbox.specs.Messages.{is_last, last_of, after_next}
+use Rattle.rdm_outbox.specs.Messages.{is_last, last_of, after_next, after_drop}
 use Rattle.rdm_outbox.specs.Shows as outbox_shows
 use Rattle.rdm_outbox.specs.State as outbox_state
 use Rattle.rdm_outbox.specs.Statuses.{can_note, unshown}
 use Rattle.rdm_outbox.proofs.Outboxes.{ended_sum, within_more}
-use Rattle.rdm_responder.specs.History.{Event, Heard, Arrived, Changed, Placed, Noted, Restored}
+use Rattle.rdm_responder.specs.History.{Event, Heard, Arrived, Changed, Placed, Noted, Restored, Dropped}
 use Rattle.rdm_responder.specs.Lawful.{MayHappen, AreLawful}
 use Rattle.rdm_responder.specs.Laws.{CanBeShown, LawfulHistoriesCanBeShown, LawfulHistoriesHaveOneState}
 use Rattle.rdm_responder.specs.Requests.{Request, Ignored, Branch, Muting, Get, Set, request_in}
@@ -33,10 +33,10 @@ use Rattle.rdm_responder.specs.Rules.{Account, account_of, account_before, accou
 use Rattle.rdm_responder.specs.StandsFor.{State, Shows}
 use Rattle.rdm_responder.proofs.Arrivals.{some_outstanding}
 
--- no worker has ended more jobs than it was given, and no more messages were given than arrived
+-- no worker has ended more jobs than it was given, and no more messages have left the queue than arrived
 pub record IsWithin (b : outbox.Account) : Type 0 where
   pub ended : (w : ℕ) → ended_of w b.ended ≤ length (jobs_of b.workers w b.accepted)
-  pub given : b.given ≤ length b.arrived
+  pub given : b.gone ≤ length b.arrived
 
 pub either : (P : outbox.Account → Type 0) (c : Bool) (x y : outbox.Account) → P x → P y → P (cond c x y)
 either P true x y one two = one
@@ -55,14 +55,18 @@ more_jobs ws w (x ∷ js) j = more_if (worker_at ws x.work == w) x (jobs_of ws w
 accepts : (b : outbox.Account) (j : Job) → IsWithin b → IsWithin (record b { accepted = b.accepted ++ j ∷ [] })
 accepts b j is = record { ended = λ w. omega (arith, is.ended w, more_jobs b.workers w b.accepted j); given = is.given }
 
-gives_next : (b : outbox.Account) (ask : Ask) (c : Bool) (x y : outbox.Account) → nat_lt b.given (length b.arrived) ≡ c → (b.given < length b.arrived → IsWithin x) → IsWithin y → IsWithin (cond c x y)
-gives_next b ask true x y e one two = one (ltb-true b.given (length b.arrived) e)
-gives_next b ask false x y e one two = two
+if_waits : (b x y : outbox.Account) (c : Bool) → nat_lt b.gone (length b.arrived) ≡ c → (b.gone < length b.arrived → IsWithin x) → IsWithin y → IsWithin (cond c x y)
+if_waits b x y true e one two = one (ltb-true b.gone (length b.arrived) e)
+if_waits b x y false e one two = two
 
 after_the_next : (b : outbox.Account) (ask : Ask) → IsWithin b → IsWithin (after_next b ask)
 after_the_next b ask is =
-    gives_next b ask (nat_lt b.given (length b.arrived)) _ _ refl
+    if_waits b _ _ (nat_lt b.gone (length b.arrived)) refl
     (λ some. record { ended = is.ended; given = omega (arith, some) }) (record { ended = is.ended; given = is.given })
+
+after_dropping : (b : outbox.Account) → IsWithin b → IsWithin (after_drop b)
+after_dropping b is =
+    if_waits b _ _ (nat_lt b.gone (length b.arrived)) refl (λ some. record { ended = is.ended; given = omega (arith, some) }) is
 
 after_verdict : (b : outbox.Account) (v : Verdict) → IsWithin b → IsWithin (outbox_after b v)
 after_verdict b (Reply bytes) is = is
@@ -119,6 +123,7 @@ after_event a (Changed change) may is = after_posting a.outbox (change_message a
 after_event a (Placed sub pid bytes) may is = is
 after_event a (Noted entry) may is = after_the_entry a.parameters a.outbox entry is
 after_event a (Restored image) may is = is
+after_event a Dropped may is = after_dropping a.outbox is
 
 after_events : (a : Account) (es : List Event) → AreLawful a es → IsWithin a.outbox → IsWithin (fold account_after a es).outbox
 after_events a [] lawful is = is

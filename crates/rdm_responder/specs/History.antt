@@ -16,8 +16,8 @@ pub record Setup : Type 0 where
   pub first_job : ℕ
 
 -- Something that happens: bytes are heard on the bus, the report of a job arrives, a person changes something at the
--- fixture's own menu, the firmware places a value, of a sub-device and a PID, it has a status entry to tell, or it restores
--- the values from an image of them, as it does when the fixture was switched on.
+-- fixture's own menu, the firmware places a value, of a sub-device and a PID, it has a status entry to tell, it restores
+-- the values from an image of them, as it does when the fixture was switched on, or it drops the oldest message that waits.
 pub data Event : Type 0 where
   Heard : List ℕ → Event
   Arrived : Report → Event
@@ -25,6 +25,7 @@ pub data Event : Type 0 where
   Placed : ℕ → ℕ → List ℕ → Event
   Noted : StatusEntry → Event
   Restored : List ℕ → Event
+  Dropped : Event
 
 -- A setup, and what happened since, in order of time.
 pub record History : Type 0 where

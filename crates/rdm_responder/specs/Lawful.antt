@@ -6,7 +6,7 @@ use Rattle.rdm_params.specs.Jobs.Work.{worker_at}
 use Rattle.rdm_saved.specs.Restoring.{restore_refusal}
 use Rattle.rdm_outbox.specs.Jobs.{has_place, outstanding_of}
 use Rattle.rdm_responder.specs.declared.report.Report.{Report}
-use Rattle.rdm_responder.specs.History.{Event, Heard, Arrived, Changed, Placed, Noted, Restored, History}
+use Rattle.rdm_responder.specs.History.{Event, Heard, Arrived, Changed, Placed, Noted, Restored, Dropped, History}
 use Rattle.rdm_responder.specs.Rules.{Account, account_before, account_after}
 
 -- The report is of the oldest outstanding job of its worker, number and work alike, and its outcome fits that work.
@@ -26,7 +26,7 @@ MayPlace a sub pid bytes = place_refusal a.parameters sub pid bytes ≡ None
 abbrev pub MayRestore : Account → List ℕ → Type 0
 MayRestore a image = restore_refusal a.parameters image ≡ None
 
--- any bytes may be heard, and any entry may be told
+-- any bytes may be heard, any entry may be told, and at any time a message may be dropped, if one waits
 abbrev pub MayHappen : Account → Event → Type 0
 MayHappen a (Heard bytes) = Unit {0}
 MayHappen a (Arrived report) = MayArrive a report
@@ -34,6 +34,7 @@ MayHappen a (Changed change) = MayChange a
 MayHappen a (Placed sub pid bytes) = MayPlace a sub pid bytes
 MayHappen a (Noted entry) = Unit {0}
 MayHappen a (Restored image) = MayRestore a image
+MayHappen a Dropped = Unit {0}
 
 -- each event may happen after those before it
 abbrev pub AreLawful : Account → List Event → Type 0

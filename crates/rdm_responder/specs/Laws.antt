@@ -15,11 +15,11 @@ use Rattle.rdm_outbox.specs.Settings.{IsQueueSize}
 use Rattle.rdm_responder.specs.StandsFor.{State, StandsFor}
 
 -- What `StandsFor` asks of jobs and messages beside equations: no worker has ended more jobs than it was given, and no more
--- messages were given than arrived.
+-- messages have left the queue than arrived.
 pub record CanBeShown (a : outbox.Account) : Type 0 where
   pub first_ended : ended_of 0 a.ended ≤ length (jobs_of a.workers 0 a.accepted)
   pub second_ended : ended_of 1 a.ended ≤ length (jobs_of a.workers 1 a.accepted)
-  pub within : a.given ≤ length a.arrived
+  pub within : a.gone ≤ length a.arrived
 
 -- Every lawful history has it.
 abbrev pub LawfulHistoriesCanBeShown : Type 0

@@ -32,11 +32,11 @@ use Rattle.rdm_params.specs.Jobs.Thresholds.{notes}
 use Rattle.rdm_outbox.specs.declared.job.Job.{Job}
 use Rattle.rdm_outbox.specs.Account as outbox
 use Rattle.rdm_outbox.specs.Jobs.{has_room, reserved, after_reserve, after_arrive, waiting_of}
-use Rattle.rdm_outbox.specs.Messages.{after_post, dispensed, after_dispense, status_dispensed, after_status}
+use Rattle.rdm_outbox.specs.Messages.{after_post, after_drop, dispensed, after_dispense, status_dispensed, after_status}
 use Rattle.rdm_outbox.specs.Statuses.{after_note, after_clear}
 use Rattle.rdm_saved.specs.Restoring.{restored}
 use Rattle.rdm_responder.specs.declared.report.Report.{Report}
-use Rattle.rdm_responder.specs.History.{Setup, Event, Heard, Arrived, Changed, Placed, Noted, Restored, History}
+use Rattle.rdm_responder.specs.History.{Setup, Event, Heard, Arrived, Changed, Placed, Noted, Restored, Dropped, History}
 use Rattle.rdm_responder.specs.Requests.{Request, Ignored, Branch, Muting, Get, Set, request_in}
 
 -- What a history comes to: the setup, the values of the parameters, each mute (true) and un-mute (false) that was
@@ -199,6 +199,7 @@ account_after_change a change = record a {
 
 -- What the firmware places changes the values alone. An entry that it tells is noted as that of a failed job is. What it
 -- restores changes the values alone, and since a fixture restores them when it was switched on, that is one more power cycle.
+-- The message that it drops is gone by its own word.
 abbrev pub account_after : Account → Event → Account
 account_after a (Heard bytes) = account_with a (request_in a.setup.uid (frame_in bytes))
 account_after a (Arrived report) = account_after_report a report
@@ -206,6 +207,7 @@ account_after a (Changed change) = account_after_change a change
 account_after a (Placed sub pid bytes) = record a { parameters = after_place a.parameters sub pid bytes }
 account_after a (Noted entry) = record a { outbox = after_entry a.parameters a.outbox entry }
 account_after a (Restored image) = record a { parameters = powered_on (restored a.parameters image) }
+account_after a Dropped = record a { outbox = after_drop a.outbox }
 
 -- how many jobs a worker can be given: their numbers have 32 bits, so that no two are alike
 abbrev pub most_jobs : ℕ

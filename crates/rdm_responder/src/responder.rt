@@ -1,11 +1,12 @@
 //! The responder.
 
-ghost use Rattle.std.specs.Prelude.{◌≡◌, ◌↔◌, ◌<◌, ◌≢◌, IsOk, IfOk, OnOk, OnErr, IfErr, IsErrOf, IfSome, IsSome, IsSomeAnd, Option, None, Some, true, slice_get, length, nat_lt};
+ghost use Rattle.std.specs.Prelude.{◌≡◌, ◌↔◌, ◌<◌, ◌≤◌, ◌≢◌, IsOk, IfOk, OnOk, OnErr, IfErr, IsErrOf, IfSome, IsSome, IsSomeAnd, Option, None, Some, true, slice_get, option_copied, length, nat_lt};
 ghost use Rattle.std.specs.Bool.{OnFalse};
 ghost use Rattle.rdm_outbox.specs.Account.{Account as OutboxAccount};
 ghost use Rattle.rdm_outbox.specs.Jobs.{outstanding_count, outstanding_of, waiting_of};
 ghost use Rattle.rdm_outbox.specs.Shows.{Shows as OutboxShows};
 ghost use Rattle.rdm_outbox.specs.State.{jobs_at};
+ghost use Rattle.rdm_outbox.specs.Statuses.{unshown};
 ghost use Rattle.rdm_frame.specs.Reading.{frame_in};
 ghost use Rattle.rdm_params.specs.Commands.Changed.{change_of};
 ghost use Rattle.rdm_profile.specs.declared.profile.Profile.{Profile};
@@ -18,7 +19,7 @@ ghost use Rattle.rdm_responder.specs.Rules.{Account, account_of, after_outcome, 
 ghost use Rattle.rdm_responder.specs.Runs.{IsArrival, outbox_of};
 ghost use Rattle.rdm_responder.specs.Settings.{HasBadProfile, HasBadSize, HasBadUid, setup_with, usual_settings};
 ghost use Rattle.rdm_responder.specs.StandsFor.{Shows, StandsFor};
-ghost use Rattle.rdm_responder.specs.Started.{job_in, IsAsInProfile, IsForItsWorker};
+ghost use Rattle.rdm_responder.specs.Started.{job_in, working_at, IsAsInProfile, IsForItsWorker};
 
 mod firmware;
 mod hear;
@@ -28,7 +29,7 @@ mod saving;
 use crate::report::{Arrival, Astray, Report};
 use crate::responder::firmware::note_entry;
 use crate::settings::{NewError, Settings};
-use crate::stepped::Stepped;
+use crate::stepped::{Started, Stepped};
 use rdm_frame::{Body, Uid, Wire, decode_view};
 use rdm_outbox::{Job, Outbox};
 use rdm_params::{Devices, Entry, Message, Outcome, Profile, Work, fitting_worker};
@@ -221,12 +222,41 @@ impl Responder {
         self.outbox.waiting()
     }
 
+    /// A message that waits for the controller: the oldest has the index 0. It is `None` if no more wait.
+    pub fn waiting_at(&self, index: usize) -> Option<&Message>
+        ensures { (h : History) → StandsFor self.now h →
+            option_copied result ≡ slice_get (waiting_of (outbox_of h)) index }
+    {
+        self.outbox.waiting_at(index)
+    }
+
+    /// How many status entries wait to be shown (E1.20 section 10.3.2).
+    pub fn unshown(&self) -> usize
+        ensures { (h : History) → StandsFor self.now h → result ≡ length (unshown (outbox_of h).noted) }
+    {
+        self.outbox.unshown()
+    }
+
     /// The oldest outstanding job of a worker: the one on which its next report is to arrive. There are workers 0 and 1.
     pub fn oldest(&self, worker: u8) -> Option<Job>
         requires { worker < 2 }
         ensures { (h : History) → StandsFor self.now h → result ≡ slice_get (outstanding_of (outbox_of h) worker) 0 }
     {
         self.outbox.oldest(worker).copied()
+    }
+
+    /// The job that a worker is at, the oldest of its outstanding ones, as `step_into` told of it when it started. There are
+    /// workers 0 and 1, and none is at a job if it has none.
+    pub fn working(&self, worker: u8) -> Option<Started>
+        ensures job { (h : History) → StandsFor self.now h → worker < 2 → result ≡ working_at h worker }
+        ensures workers { 2 ≤ worker → result ≡ None }
+    {
+        let job = *self.outbox.oldest(worker)?;
+        Some(Started {
+            job,
+            worker: self.devices.worker_of(&job.work),
+            estimate: self.devices.estimate_of(&job.work),
+        })
     }
 
     /// How many jobs are outstanding.

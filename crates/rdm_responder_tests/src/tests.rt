@@ -7,6 +7,7 @@ mod chosen;
 mod clear;
 mod cuts;
 mod discovery;
+mod dropping;
 mod firmware;
 mod identify;
 mod judge;
@@ -20,6 +21,7 @@ mod waiting;
 mod words;
 
 use play::{Run, plays};
+use rdm_frame::digits::bytes_in;
 use rdm_frame::standard::{DISCOVERY_COMMAND as DISCOVERY, GET_COMMAND as GET, SET_COMMAND as SET};
 use rdm_frame::{Body, Frame, Uid, Wire, encode};
 use rdm_params::Profile;
@@ -57,16 +59,14 @@ fn request(rt: &impl Abort, dst: Uid, tn: u8, class: u8, pid: u16, slots: &[u8])
 /// The bytes that hexadecimal digits print. Blanks between them are for the eye.
 fn printed(rt: &impl Abort, text: &str) -> Wire {
     let mut bytes = Wire::new();
-    let mut upper = None;
-    for digit in text.chars().filter_map(|c| c.to_digit(16)) {
-        let Some(high) = upper else {
-            upper = Some(digit);
-            continue;
-        };
-        upper = None;
-        append(rt, &mut bytes, &[((high << 4 | digit) & 0xFF) as u8]);
+    for word in text.split_whitespace() {
+        let digits = word.as_bytes();
+        let is_short = digits.len() <= 510;
+        assert!(rt; is_short, "{word}");
+        if is_short {
+            append(rt, &mut bytes, bytes_in(digits).expect(rt, word).as_slice());
+        }
     }
-    assert!(rt; upper == None, "{text}");
     bytes
 }
 
@@ -77,6 +77,21 @@ fn append(rt: &impl Abort, wire: &mut Wire, bytes: &[u8]) {
     if fits {
         wire.append(bytes);
     }
+}
+
+/// The first word of a text, and what follows it.
+fn cut(text: &str) -> (&str, &str) {
+    text.split_once(' ').unwrap_or((text, ""))
+}
+
+/// The number that hexadecimal digits print.
+fn word(rt: &impl Abort, digits: &str) -> u16 {
+    u16::from_str_radix(digits, 16).ok().expect(rt, digits)
+}
+
+/// The byte that hexadecimal digits print.
+fn byte(rt: &impl Abort, digits: &str) -> u8 {
+    u8::from_str_radix(digits, 16).ok().expect(rt, digits)
 }
 
 /// A responder of the demo fixture with so many sub-devices, and room for so many results of slow commands.
@@ -151,10 +166,17 @@ fn a_whole_run_is_answered_in_order(rt: HostRuntime) {
     let inputs = [Input::Heard(set.as_slice()), Input::Heard(get.as_slice())];
     let mut responder = responder_with(&rt, rt.alloc(), 0, 8);
     let outputs = responder.step_all(rt.alloc(), &inputs);
-    let expected = [
-        Output::Answered(None, None),
-        Output::Answered(Some(printed(&rt, IS_ON)), None),
-    ];
-    let outputs = outputs.expect(&rt, "memory");
-    assert!(rt; outputs.as_slice() == expected.as_slice());
+    are_none_and(&rt, &outputs.expect(&rt, "memory"), IS_ON);
+}
+
+/// A broadcast isn't answered, and a request then is, by these bytes. Neither starts a job.
+fn are_none_and(rt: &impl Abort, outputs: &[Output], reply: &str) {
+    let is_so = match outputs {
+        [
+            Output::Answered(None, None),
+            Output::Answered(Some(told), None),
+        ] => *told == printed(rt, reply),
+        _ => false,
+    };
+    assert!(rt; is_so, "{outputs:?}");
 }

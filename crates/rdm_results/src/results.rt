@@ -53,7 +53,7 @@ impl Results {
         }
         let mut report = String::new(alloc);
         if !expectations.is_empty() {
-            put_report(&mut report, expectations, &verdicts)?;
+            put_report(&mut report, None, expectations, &verdicts)?;
         }
         Ok(Results {
             report,

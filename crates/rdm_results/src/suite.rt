@@ -1,15 +1,13 @@
 //! What is told of several scripts.
 
-use rdm_expect::{
-    Expectation, Failure, Tally, Verdict, judge, put_escaped, put_suite, put_suites, tally_of,
-};
+use rdm_expect::{Expectation, Tally, Verdict, judge, put_report, put_suite, put_suites, tally_of};
 use rdm_frame::Uid;
 use rdm_host::fault::Fault;
 use rdm_host::host::Host;
 use rdm_host::source::save;
+use rdm_markup::{Place, put_escaped};
 use rdm_trace::Line;
 use std::alloc::{AllocError, Global};
-use std::fmt::Write;
 
 /// What came of the scripts of a suite.
 #[derive(Drop)]
@@ -108,43 +106,18 @@ fn report_of(
     verdicts: &[Verdict],
 ) -> Result<String, AllocError> {
     let mut report = String::new(alloc);
-    for (expectation, verdict) in expectations.iter().zip(verdicts) {
-        put_verdict(&mut report, name, expectation, verdict)?;
-    }
-    let tally = tally_of(verdicts);
-    write!(report, "{name}: {tally}\n")?;
+    put_report(&mut report, Some(name), expectations, verdicts)?;
     Ok(report)
-}
-
-/// Puts a line for an expectation of the script of this name at the end of a text, unless it holds.
-fn put_verdict(
-    text: &mut String,
-    name: &str,
-    expectation: &Expectation,
-    verdict: &Verdict,
-) -> Result<(), AllocError> {
-    let Expectation { line, wish, .. } = expectation;
-    match verdict {
-        Verdict::Passed => Ok(()),
-        Verdict::Failed(came) => {
-            let failure = Failure { wish, came };
-            write!(text, "{name}:{line}: {failure}\n")
-        }
-        Verdict::Skipped => write!(
-            text,
-            "{name}:{line}: skipped {wish}: the trace has no times\n"
-        ),
-    }
 }
 
 /// Puts the `testsuite` of a script that wasn't played at the end of markup, since the device lacks this.
 fn put_left_out(markup: &mut String, name: &str, lack: &str) -> Result<(), AllocError> {
     markup.push_str("<testsuite name=\"")?;
-    put_escaped(markup, name)?;
+    put_escaped(markup, Place::Attribute, name)?;
     markup.push_str("\" tests=\"1\" failures=\"0\" errors=\"0\" skipped=\"1\">\n")?;
     markup.push_str("  <testcase classname=\"")?;
-    put_escaped(markup, name)?;
+    put_escaped(markup, Place::Attribute, name)?;
     markup.push_str("\" name=\"needs\">\n    <skipped message=\"the device has ")?;
-    put_escaped(markup, lack)?;
+    put_escaped(markup, Place::Attribute, lack)?;
     markup.push_str("\"/>\n  </testcase>\n</testsuite>\n")
 }

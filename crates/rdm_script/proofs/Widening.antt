@@ -41,11 +41,11 @@ pub record IsWider (s t : Scene) : Type 0 where
   pub second : (before : List Job) (j : Job) (o : Outcome) → s.second before j o → t.second before j o
   pub offers : (n : ℕ) (c : Change) → s.offers n c → t.offers n c
 
--- what hangs on the device alone
+-- what depends on the device alone
 moved : (P : Uid → Profile → Type 0) (s t : Scene) → IsWider s t → P s.device s.profile → P t.device t.profile
 moved P s t w h = subst (P t.device) w.profile (subst (λ (d : Uid). P d s.profile) w.device h)
 
--- what hangs on the dialect alone
+-- what depends on the dialect alone
 retold : (P : Dialect → Type 0) (s t : Scene) → IsWider s t → P (spoken_at s) → P (spoken_at t)
 retold P s t w h =
     let own = s.profile.particulars.own in

@@ -83,7 +83,10 @@ impl Wanted {
     /// What was wanted.
     fn words(self) -> &'static str {
         match self {
-            Wanted::Step => "setup, get, set, disc, find, collect, draw, settle or panel",
+            Wanted::Step => {
+                // The lines `expect` of a script are taken out before its steps are read.
+                "setup, get, set, disc, find, collect, draw, settle, panel or expect"
+            }
             Wanted::SetupFirst => "it before all other steps",
             Wanted::Destination => "dev, all, maker, or a UID such as 7FF0:00000001",
             Wanted::SubDevice => "4 hexadecimal digits, root, or 0 to 512",

@@ -206,7 +206,7 @@ fn lines_on<'a, H: Host>(
 {
     let fixture = file.fixture(rt)?;
     if fixture.uid == CONTROLLER {
-        return Err(Fault::ControllersUid(CONTROLLER));
+        return Err(Fault::ControllersUid(file.name(), CONTROLLER));
     }
     let told = Told::of(rt.alloc(), &fixture)?;
     match play_on(rt, fixture, script.text) {

@@ -19,18 +19,82 @@ const QUEUE_SIZE: u16 = 8;
 /// From where on bytes of a collision are made up: the same at each run.
 const SEED: u64 = 1;
 
-/// How many fixtures are asked for. More than there may be on a line are refused.
+/// Fixtures of a rig that are alike: the file that describes them, and how many there are.
+#[derive(Clone, Copy)]
+struct Share<'a> {
+    path: &'a str,
+    count: u16,
+}
+
+impl<'a> Share<'a> {
+    /// What a word of the command line asks for: `FILE*N` are N fixtures, and FILE alone is as many as there are of each.
+    fn named(word: &'a str, each: u16) -> Result<Share<'a>, Fault<'a>> {
+        match word.rsplit_once('*') {
+            Some((path, digits)) if is_counted(path, digits) => {
+                let count = count_in(digits).ok_or(Fault::BadCount(word))?;
+                Ok(Share { path, count })
+            }
+            _ => Ok(Share {
+                path: word,
+                count: each,
+            }),
+        }
+    }
+}
+
+/// Whether a word is a path with a number behind it.
+fn is_counted(path: &str, digits: &str) -> bool {
+    !path.is_empty() && !digits.is_empty() && digits.bytes().all(|byte| byte.is_ascii_digit())
+}
+
+/// The number of fixtures that these digits are, if there can be so many on a line.
+fn count_in(digits: &str) -> Option<u16> {
+    match digits.parse::<u16>() {
+        Ok(count) if count >= 1 && count <= rdm_usage::MOST_FIXTURES => Some(count),
+        _ => None,
+    }
+}
+
+/// How many fixtures are asked for. More than there may be on a line are refused, and so is standard input, which has what the host says.
 pub(crate) fn fixture_count<'a>(asked: &ArgMatches<'a>) -> Result<usize, Fault<'a>> {
-    let kinds = match asked.get_strs(rdm_usage::FIXTURE) {
-        Some(names) => names.len(),
-        None => 1,
-    };
     let each = count_of_each(asked);
-    let count = kinds.saturating_mul(usize::from(each));
+    let words = asked.get_strs(rdm_usage::FIXTURE).unwrap_or(&[]);
+    let kinds = words.len().max(1);
+    let mut count = if words.is_empty() {
+        usize::from(each)
+    } else {
+        0
+    };
+    let mut are_alike = true;
+    for word in words {
+        let share = Share::named(word, each)?;
+        if Source::named(Some(share.path)) == Source::Input {
+            return Err(Fault::ReadTwice);
+        }
+        are_alike = are_alike && share.path == *word;
+        count = count.saturating_add(usize::from(share.count));
+    }
     if count > usize::from(rdm_usage::MOST_FIXTURES) {
-        return Err(Fault::TooManyFixtures(kinds, each));
+        return Err(match are_alike {
+            true => Fault::TooManyFixtures(kinds, each),
+            false => Fault::TooManyFixtures(count, 1),
+        });
     }
     Ok(count)
+}
+
+/// The one fixture that is asked for, and by what name messages tell of it.
+pub(crate) fn only_one<'a, H: Host>(
+    rt: H,
+    asked: &ArgMatches<'a>,
+) -> Result<(&'a str, Fixture), Fault<'a>> {
+    let Some(word) = asked.get_str(rdm_usage::FIXTURE) else {
+        return Ok((DEMONSTRATION, demonstration()));
+    };
+    let share = Share::named(word, 1)?;
+    let file = FixtureFile::read(rt, Source::named(Some(share.path)))?;
+    let fixture = file.fixture(rt)?;
+    Ok((file.name(), fixture))
 }
 
 /// All fixtures that are asked for, on one line: so many of each file, or of the demonstration.
@@ -49,12 +113,14 @@ fn join_all<'a, H: Host>(
     asked: &ArgMatches<'a>,
     line: &mut Line<LiveFixture>,
 ) -> Result<(), Fault<'a>> {
-    let Some(names) = asked.get_strs(rdm_usage::FIXTURE) else {
-        return join_each(rt, asked, None, line);
+    let each = count_of_each(asked);
+    let Some(words) = asked.get_strs(rdm_usage::FIXTURE) else {
+        return join_each(rt, asked, None, each, line);
     };
-    for name in names {
-        let file = FixtureFile::read(rt, Source::named(Some(*name)))?;
-        join_each(rt, asked, Some(&file), line)?;
+    for word in words {
+        let share = Share::named(word, each)?;
+        let file = FixtureFile::read(rt, Source::named(Some(share.path)))?;
+        join_each(rt, asked, Some(&file), share.count, line)?;
     }
     Ok(())
 }
@@ -64,9 +130,9 @@ fn join_each<'a, H: Host>(
     rt: H,
     asked: &ArgMatches<'a>,
     file: Option<&FixtureFile<'a>>,
+    count: u16,
     line: &mut Line<LiveFixture>,
 ) -> Result<(), Fault<'a>> {
-    let count = count_of_each(asked);
     let name = name_of(file);
     for number in 0..count {
         let mut fixture = match file {

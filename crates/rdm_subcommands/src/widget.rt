@@ -4,10 +4,8 @@ use crate::saved::Saved;
 use crate::{rig, saved};
 use clap::ArgMatches;
 use rdm_host::fault::Fault;
-use rdm_host::fixture;
-use rdm_host::fixture::DEMONSTRATION;
 use rdm_host::host::Host;
-use rdm_host::source::{INPUT, OUTPUT, Source, refuse_clashes};
+use rdm_host::source::{INPUT, OUTPUT, refuse_clashes};
 use rdm_host::watched::Watched;
 use rdm_widget::{Clock, LiveFixture, OnLine, Packet, RealClock, ServeError, serve, serve_some};
 use std::fs::OpenFile;
@@ -30,11 +28,7 @@ pub fn run<'a, H: Host>(rt: H, asked: &ArgMatches<'a>) -> Result<(), Fault<'a>> 
 
 /// Serves with the one fixture that is asked for, and keeps its values in a file if that is asked for.
 fn serve_one<'a, H: Host>(rt: H, asked: &ArgMatches<'a>) -> Result<(), Fault<'a>> {
-    let fixture = fixture::asked_for(rt, asked)?;
-    let name = match asked.get_str(rdm_usage::FIXTURE) {
-        Some(path) => Source::named(Some(path)).name(),
-        None => DEMONSTRATION,
-    };
+    let (name, fixture) = rig::only_one(rt, asked)?;
     let mut live = rig::live(rt, asked, name, fixture)?;
     match asked.get_str(rdm_usage::SAVED) {
         Some(name) => serve_kept(rt, asked, name, &mut live),

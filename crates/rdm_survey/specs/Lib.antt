@@ -1,3 +1,4 @@
+pub mod Columns
 pub mod Csv
 pub mod DeviceInfos
 pub mod Json

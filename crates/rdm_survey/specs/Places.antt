@@ -2,6 +2,7 @@
 use Rattle.std.specs.Prelude.{ℕ, ◌+◌, ◌-◌, ◌≤◌, ◌==◌, ◌&&◌, nat_le, nat_lt, Bool, List, [], ◌∷◌, ◌++◌, map, filter, Option, Some, None, if◌then◌else◌}
 use Rattle.std.specs.List.{flat_map}
 use Rattle.rdm_frame.specs.declared.uid.Uid.{Uid}
+use Rattle.rdm_survey.specs.declared.device.Device.{Device}
 use Rattle.rdm_survey.specs.declared.device_info.DeviceInfo.{DeviceInfo}
 use Rattle.rdm_survey.specs.declared.row.Row.{Row}
 use Rattle.rdm_survey.specs.declared.row.SubDevice.{SubDevice}
@@ -9,25 +10,33 @@ use Rattle.rdm_survey.specs.declared.place.Place.{Place}
 use Rattle.rdm_survey.specs.declared.place.Clash.{Clash}
 use Rattle.rdm_survey.specs.declared.place.Clash.TheVariants.{PastEnd, Overlap}
 
--- The slots from a start address on, as many as the footprint says. A device with no address or no footprint takes none.
-abbrev pub place : Uid → ℕ → Option ℕ → ℕ → List Place
-place uid sub None footprint = []
-place uid sub (Some first) footprint =
-    if footprint == 0 then [] else record { uid = uid; sub = sub; first = first; last = first + footprint - 1 } ∷ []
+-- A device takes slots if it has a start address and its footprint is above 0.
+abbrev pub device : Uid → ℕ → Option ℕ → ℕ → List Device
+device uid sub None footprint = []
+device uid sub (Some address) footprint =
+    if footprint == 0 then [] else record { uid = uid; sub = sub; address = address; footprint = footprint } ∷ []
 
-abbrev pub root_place : Uid → Option DeviceInfo → List Place
-root_place uid None = []
-root_place uid (Some device) = place uid 0 device.address device.footprint
+abbrev pub root_device : Uid → Option DeviceInfo → List Device
+root_device uid None = []
+root_device uid (Some root) = device uid 0 root.address root.footprint
 
-abbrev pub sub_place : Uid → SubDevice → List Place
-sub_place uid device = place uid device.number device.address device.footprint
+abbrev pub sub_device : Uid → SubDevice → List Device
+sub_device uid sub = device uid sub.number sub.address sub.footprint
 
--- the places of a fixture: that of its root, and those of its sub-devices
-abbrev pub places_of : Row → List Place
-places_of row = root_place row.uid row.device ++ flat_map (sub_place row.uid) row.sub_devices.items
+-- those of a fixture: its root, and its sub-devices
+abbrev pub devices_of : Row → List Device
+devices_of row = root_device row.uid row.device ++ flat_map (sub_device row.uid) row.sub_devices.items
+
+-- Those that take slots, in the order of the rows.
+abbrev pub devices : List Row → List Device
+devices rows = flat_map devices_of rows
+
+-- The slots from its start address on, as many as the footprint says.
+abbrev pub place_of : Device → Place
+place_of d = record { uid = d.uid; sub = d.sub; first = d.address; last = d.address + d.footprint - 1 }
 
 abbrev pub places : List Row → List Place
-places rows = flat_map places_of rows
+places rows = map place_of (devices rows)
 
 -- There is a slot that both take.
 abbrev pub meets : Place → Place → Bool

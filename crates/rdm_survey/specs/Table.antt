@@ -1,11 +1,13 @@
 -- A survey as a table on a terminal, a line for each fixture.
-use Rattle.std.specs.Prelude.{ℕ, ◌+◌, ◌-◌, ◌==◌, nat_lt, List, [], ◌∷◌, ◌++◌, length, take, replicate, codes, decimal, Option, Some, None, if◌then◌else◌}
-use Rattle.std.specs.List.{flat_map}
+use Rattle.std.specs.Prelude.{ℕ, ◌+◌, ◌-◌, ◌==◌, nat_lt, List, [], ◌∷◌, ◌++◌, codes, decimal, Option, Some, None, if◌then◌else◌}
 use Rattle.rdm_survey.specs.declared.columns.Column.{Column}
 use Rattle.rdm_survey.specs.declared.columns.Column.TheVariants as column
 use Rattle.rdm_survey.specs.declared.device_info.DeviceInfo.{DeviceInfo}
 use Rattle.rdm_survey.specs.declared.row.Row.{Row}
 use Rattle.rdm_survey.specs.declared.row.StatusCounts.{StatusCounts}
+use Rattle.rdm_survey.specs.declared.table.Width.{Width}
+use Rattle.rdm_survey.specs.declared.table.Width.TheVariants as wide
+use Rattle.rdm_survey.specs.Columns.{line_of, placed}
 use Rattle.rdm_survey.specs.Members.{uid_word}
 use Rattle.rdm_survey.specs.Shown.{shown}
 
@@ -78,19 +80,19 @@ words_in column.Hours row = number_words row.hours
 words_in column.Status row = status_words row.status
 
 -- how wide a column is; the last is as wide as what stands in it
-abbrev pub width : Column → Option ℕ
-width column.Uid = Some 13
-width column.Manufacturer = Some 14
-width column.Model = Some 18
-width column.Label = Some 16
-width column.Address = Some 7
-width column.Footprint = Some 5
-width column.Personality = Some 18
-width column.Software = Some 10
-width column.SubDevices = Some 4
-width column.Sensors = Some 7
-width column.Hours = Some 6
-width column.Status = None
+abbrev pub width : Column → Width
+width column.Uid = wide.Cut 13
+width column.Manufacturer = wide.Cut 14
+width column.Model = wide.Cut 18
+width column.Label = wide.Cut 16
+width column.Address = wide.Cut 7
+width column.Footprint = wide.Cut 5
+width column.Personality = wide.Cut 18
+width column.Software = wide.Cut 10
+width column.SubDevices = wide.Cut 4
+width column.Sensors = wide.Cut 7
+width column.Hours = wide.Cut 6
+width column.Status = wide.Rest
 
 abbrev pub heading : Column → List ℕ
 heading column.Uid = codes "UID"
@@ -106,31 +108,15 @@ heading column.Sensors = codes "Sensors"
 heading column.Hours = codes "Hours"
 heading column.Status = codes "Status"
 
--- Words in so many characters and a space: cut, with a `~` at the end, if they are longer.
-abbrev pub fitted : ℕ → List ℕ → List ℕ
-fitted n words =
-    if nat_lt n (length words) then take (n - 1) words ++ 0x7E ∷ 0x20 ∷ []
-    else words ++ replicate (n - length words) 0x20 ++ 0x20 ∷ []
-
-abbrev pub placed : Option ℕ → List ℕ → List ℕ
-placed None words = words
-placed (Some n) words = fitted n words
-
 -- the columns, in order
 abbrev pub columns : List Column
 columns =
     column.Uid ∷ column.Manufacturer ∷ column.Model ∷ column.Label ∷ column.Address ∷ column.Footprint ∷ column.Personality
     ∷ column.Software ∷ column.SubDevices ∷ column.Sensors ∷ column.Hours ∷ column.Status ∷ []
 
-unfoldable pub heading_place : Column → List ℕ
-heading_place c = placed (width c) (heading c)
-
 abbrev pub heading_line : List ℕ
-heading_line = flat_map heading_place columns ++ 0x0A ∷ []
-
-unfoldable pub row_place : Row → Column → List ℕ
-row_place row c = placed (width c) (words_in c row)
+heading_line = line_of (λ c. placed (width c) (heading c)) columns
 
 -- The line of a fixture.
 abbrev pub row_line : Row → List ℕ
-row_line row = flat_map (row_place row) columns ++ 0x0A ∷ []
+row_line row = line_of (λ c. placed (width c) (words_in c row)) columns

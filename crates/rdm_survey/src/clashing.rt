@@ -1,12 +1,11 @@
 //! Which places clash.
 
-ghost use Rattle.std.specs.List.{flat_map};
 ghost use Rattle.std.specs.Prelude.{◌≡◌, ◌++◌, IfOk, OnOk, map, filter};
 ghost use Rattle.rdm_survey.specs.declared.place.Clash.TheVariants.{Overlap};
-ghost use Rattle.rdm_survey.specs.Places.{place, places_of, places, sub_place, meets, past_end, clashes_with, clashes};
+ghost use Rattle.rdm_survey.specs.Places.{place_of, places, meets, past_end, clashes_with, clashes};
 
-use crate::{Clash, Place, Row, SubDevice};
-use rdm_frame::Uid;
+use crate::device::{Device, devices};
+use crate::{Clash, Place, Row};
 use std::alloc::{AllocError, Global};
 
 /// The last slot of DMX512.
@@ -68,52 +67,36 @@ fn meets(place: Place, other: Place) -> bool
 fn places(alloc: Global, rows: &[Row]) -> Result<Vec<Place>, AllocError>
     ensures { IfOk result (λ list. list.items ≡ places rows.now) }
 {
+    let devices = devices(alloc, rows)?;
     let mut list = Vec::new(alloc);
-    for row in rows {
-        put_places(&mut list, row)?;
-    }
+    put_places(&mut list, devices.as_slice())?;
     Ok(list)
 }
 
-/// The places of a fixture: that of its root, and those of its sub-devices.
-fn put_places(list: &mut Vec<Place>, row: &Row) -> Result<(), AllocError>
-    ensures { OnOk result (list.new.items ≡ list.old.items ++ places_of row.now) }
+/// The places of these devices.
+fn put_places(list: &mut Vec<Place>, devices: &[Device]) -> Result<(), AllocError>
+    ensures { OnOk result (list.new.items ≡ list.old.items ++ map place_of devices.now) }
 {
-    if let Some(device) = &row.device {
-        put_place(list, row.uid, 0, device.address, device.footprint)?;
-    }
-    put_sub_places(list, row.uid, row.sub_devices.as_slice())
-}
-
-/// The places of sub-devices.
-fn put_sub_places(list: &mut Vec<Place>, uid: Uid, subs: &[SubDevice]) -> Result<(), AllocError>
-    ensures { OnOk result (list.new.items ≡ list.old.items ++ flat_map (sub_place uid) subs.now) }
-{
-    for sub in subs {
-        put_place(list, uid, sub.number, sub.address, sub.footprint)?;
+    for device in devices {
+        list.push(place_of(*device))?;
     }
     Ok(())
 }
 
-/// The slots from a start address on, if the device takes any.
-fn put_place(
-    list: &mut Vec<Place>,
-    uid: Uid,
-    sub: u16,
-    address: Option<u16>,
-    footprint: u16,
-) -> Result<(), AllocError>
-    ensures { OnOk result (list.new.items ≡ list.old.items ++ place uid sub address footprint) }
+/// The slots from the start address of a device on.
+fn place_of(device: Device) -> Place
+    ensures { result ≡ place_of device }
 {
-    if let Some(first) = address {
-        if footprint > 0 {
-            list.push(Place {
-                uid,
-                sub,
-                first,
-                last: u32::from(first) + u32::from(footprint) - 1,
-            })?;
-        }
+    let Device {
+        uid,
+        sub,
+        address,
+        footprint,
+    } = device;
+    Place {
+        uid,
+        sub,
+        first: address,
+        last: (u32::from(address) + u32::from(footprint)).saturating_sub(1),
     }
-    Ok(())
 }

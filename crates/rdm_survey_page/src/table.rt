@@ -6,24 +6,8 @@ ghost use Rattle.rdm_survey_page.specs.Pages.{cell, row_tag, row_text};
 
 use crate::clash_list::is_in_clash;
 use crate::escaping::put_escaped;
-use rdm_survey::{Clash, Column, Row, put_words};
+use rdm_survey::{Clash, Column, Row, all_columns, put_words};
 use std::alloc::{AllocError, Global};
-
-/// The columns, in order. Behind them is one for notes.
-const COLUMNS: [Column; 12] = [
-    Column::Uid,
-    Column::Manufacturer,
-    Column::Model,
-    Column::Label,
-    Column::Address,
-    Column::Footprint,
-    Column::Personality,
-    Column::Software,
-    Column::SubDevices,
-    Column::Sensors,
-    Column::Hours,
-    Column::Status,
-];
 
 /// A row for each fixture.
 pub(crate) fn put_rows(
@@ -40,7 +24,7 @@ pub(crate) fn put_rows(
     Ok(())
 }
 
-/// The row of a fixture, which is marked if its slots clash.
+/// The row of a fixture, which is marked if its slots clash. Behind its columns is one for notes.
 #[tactic(auto, unfolding(crate::specs::Pages::row_text))]
 fn put_row(
     alloc: Global,
@@ -51,7 +35,7 @@ fn put_row(
     ensures { OnOk result (text.new.items ≡ text.old.items ++ row_text clashes.now row.now) }
 {
     text.extend_from_slice(row_tag(is_in_clash(clashes, row.uid)).as_bytes())?;
-    put_cells(alloc, &COLUMNS, row, text)?;
+    put_cells(alloc, all_columns(), row, text)?;
     text.extend_from_slice(b"<td></td></tr>\n")
 }
 

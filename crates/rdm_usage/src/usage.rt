@@ -231,13 +231,13 @@ const OF_WIDGET: &[Argument] = &[
         id: FIXTURE,
         form: Form::Each,
         value: "FILE",
-        help: "A fixture on the line, given once for each;\nthe demonstration fixture if omitted",
+        help: "A fixture on the line, given once for each, or\n'FILE*N' for N of them; the demonstration fixture\nif omitted",
     },
     Argument {
         id: COUNT,
         form: Form::Number16(1, MOST_FIXTURES),
         value: "N",
-        help: "How many of each fixture, with consecutive device\nIDs; 1 by default",
+        help: "How many of each fixture without *N, with consecutive\ndevice IDs; 1 by default",
     },
     Argument {
         id: COLLISION,

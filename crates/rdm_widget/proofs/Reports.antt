@@ -20,7 +20,7 @@ use Rattle.rdm_outbox.specs.Jobs.{jobs_of, ended_of, next_job, has_room}
 use Rattle.rdm_responder.specs.declared.report.Report.{Report}
 use Rattle.rdm_responder.specs.declared.report.Arrival.{Arrival}
 use Rattle.rdm_responder.specs.declared.report.Astray.{Astray}
-use Rattle.rdm_responder.specs.History.{Event, Heard, Arrived, Changed, Placed, Noted, Restored, History}
+use Rattle.rdm_responder.specs.History.{Event, Heard, Arrived, Changed, Placed, Noted, Restored, Dropped, History}
 use Rattle.rdm_responder.specs.Requests.{Request, Ignored, Branch, Muting, Get, Set, request_in}
 use Rattle.rdm_responder.specs.Rules.{Account, account_of, account_before, account_after, job_with, started_by}
 use Rattle.rdm_responder.specs.Runs.{outbox_of}
@@ -97,6 +97,7 @@ event_starts gets sets a (Changed change) = tt
 event_starts gets sets a (Placed sub pid bytes) = tt
 event_starts gets sets a (Noted entry) = tt
 event_starts gets sets a (Restored image) = tt
+event_starts gets sets a Dropped = tt
 
 all_slow : GetStartsItsWork → SetStartsItsWork → (a : Account) (es : List Event) → Each IsSlowJob a.outbox.accepted → Each IsSlowJob (fold account_after a es).outbox.accepted
 all_slow gets sets a [] all = all
@@ -183,6 +184,7 @@ reported-then (Changed change ∷ es) r = reported-then es r
 reported-then (Placed sub pid bytes ∷ es) r = reported-then es r
 reported-then (Noted entry ∷ es) r = reported-then es r
 reported-then (Restored image ∷ es) r = reported-then es r
+reported-then (Dropped ∷ es) r = reported-then es r
 
 pub reported-heard : (es : List Event) (bytes : List ℕ) → reported_in (es ++ Heard bytes ∷ []) ≡ reported_in es
 reported-heard [] bytes = refl
@@ -192,6 +194,7 @@ reported-heard (Changed change ∷ es) bytes = reported-heard es bytes
 reported-heard (Placed sub pid placed ∷ es) bytes = reported-heard es bytes
 reported-heard (Noted entry ∷ es) bytes = reported-heard es bytes
 reported-heard (Restored image ∷ es) bytes = reported-heard es bytes
+reported-heard (Dropped ∷ es) bytes = reported-heard es bytes
 
 pub reported-changed : (es : List Event) (change : Change) → reported_in (es ++ Changed change ∷ []) ≡ reported_in es
 reported-changed [] change = refl
@@ -201,6 +204,7 @@ reported-changed (Changed other ∷ es) change = reported-changed es change
 reported-changed (Placed sub pid bytes ∷ es) change = reported-changed es change
 reported-changed (Noted entry ∷ es) change = reported-changed es change
 reported-changed (Restored image ∷ es) change = reported-changed es change
+reported-changed (Dropped ∷ es) change = reported-changed es change
 
 pub reported-restored : (es : List Event) (image : List ℕ) → reported_in (es ++ Restored image ∷ []) ≡ reported_in es
 reported-restored [] image = refl
@@ -210,6 +214,7 @@ reported-restored (Changed change ∷ es) image = reported-restored es image
 reported-restored (Placed sub pid bytes ∷ es) image = reported-restored es image
 reported-restored (Noted entry ∷ es) image = reported-restored es image
 reported-restored (Restored other ∷ es) image = reported-restored es image
+reported-restored (Dropped ∷ es) image = reported-restored es image
 
 pub reported-placed : (es : List Event) (sub pid : ℕ) (bytes : List ℕ) → reported_in (es ++ Placed sub pid bytes ∷ []) ≡ reported_in es
 reported-placed [] sub pid bytes = refl
@@ -219,6 +224,7 @@ reported-placed (Changed change ∷ es) sub pid bytes = reported-placed es sub p
 reported-placed (Placed other key more ∷ es) sub pid bytes = reported-placed es sub pid bytes
 reported-placed (Noted entry ∷ es) sub pid bytes = reported-placed es sub pid bytes
 reported-placed (Restored image ∷ es) sub pid bytes = reported-placed es sub pid bytes
+reported-placed (Dropped ∷ es) sub pid bytes = reported-placed es sub pid bytes
 
 -- what must come to pass where no report is astray
 pub never_astray : (r : Result Arrival Astray) (P : Type 0) (Q : Astray → Type 0) → OnOk r P → IfErr r Q → ((a : Astray) → Q a → ⊥) → P

@@ -8,7 +8,7 @@ use Rattle.rdm_outbox.specs.Jobs.{outstanding_of, outstanding_count}
 use Rattle.rdm_outcomes.specs.declared.rule.Rule.{Rule}
 use Rattle.rdm_outcomes.specs.Outcomes.{outcome_of, HasEnded}
 use Rattle.rdm_responder.specs.declared.report.Report.{Report}
-use Rattle.rdm_responder.specs.History.{Setup, Event, Heard, Arrived, Changed, Placed, Noted, Restored, History, empty_history, then_event}
+use Rattle.rdm_responder.specs.History.{Setup, Event, Heard, Arrived, Changed, Placed, Noted, Restored, Dropped, History, empty_history, then_event}
 use Rattle.rdm_responder.specs.Laws.{values_of}
 use Rattle.rdm_responder.specs.Rules.{reply_of}
 use Rattle.rdm_responder.specs.Runs.{outbox_of}
@@ -73,6 +73,7 @@ reported_in (Changed change ∷ events) = reported_in events
 reported_in (Placed sub pid bytes ∷ events) = reported_in events
 reported_in (Noted entry ∷ events) = reported_in events
 reported_in (Restored image ∷ events) = reported_in events
+reported_in (Dropped ∷ events) = reported_in events
 
 -- the report of a job, which ends by the rules after the jobs before
 abbrev pub report_of : Situation → Job → Report

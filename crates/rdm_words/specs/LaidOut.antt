@@ -14,7 +14,8 @@ use Rattle.rdm_words.specs.declared.data.form.Record.{Record}
 use Rattle.rdm_words.specs.declared.data.form.Record.TheVariants.{Exactly, AtLeast}
 use Rattle.rdm_words.specs.declared.data.form.Value.{Value}
 use Rattle.rdm_words.specs.declared.data.form.Value.TheVariants.{Number, Digits, Text, Code as Coded, Counted, Other}
-use Rattle.rdm_words.specs.declared.tables.Table.{Table}
+use Rattle.rdm_standard_names.specs.declared.table.Table.{Table}
+use Rattle.rdm_standard_names.specs.Tables.{has_name}
 use Rattle.rdm_words.specs.DataFacts.{languages, supported, status_message, slot_info, slot_default}
 use Rattle.rdm_words.specs.FieldFacts.{slots_at, number_in, as_number, as_digits, as_text, as_data, as_signed, as_measured, as_uid, as_parameter, as_place, as_failure, as_range, as_slot_use, each_entry}
 use Rattle.rdm_words.specs.HeaderWords.{quoted, with_number}
@@ -38,10 +39,6 @@ is_separated field = begins_apart field.0.now && ends_apart field.0.now
 abbrev pub are_separated : List Field → Bool
 are_separated [] = true
 are_separated (first ∷ others) = ends_apart first.0.now && list_all is_separated others
-
--- the table has a name for this number
-abbrev pub has_name : Table → ℕ → Bool
-has_name table number = list_any (λ row. row.0 == number) table.0.now
 
 abbrev pub counted_facts : Table → List ℕ → List (List ℕ)
 counted_facts table slots = (if has_name table (number_in slots) then digits slots else decimal (number_in slots)) ∷ []

@@ -1,14 +1,9 @@
 -- What the tables of the standard say of a number.
-use Rattle.std.specs.Prelude.{ℕ, ◌==◌, ◌/◌, List, [], ◌∷◌, Option, None, codes, find, if◌then◌else◌}
-use Rattle.std.specs.Option.{option_map, option_or}
+use Rattle.std.specs.Prelude.{ℕ, ◌==◌, ◌/◌, List, [], ◌∷◌, Option, None, codes, if◌then◌else◌}
+use Rattle.std.specs.Option.{option_or}
 use Rattle.rdm_frame.specs.Nacks.{reason_name}
 use Rattle.rdm_frame.specs.Names.{name_in}
 use Rattle.rdm_params.specs.Table.Names.{parameter_name}
-use Rattle.rdm_words.specs.declared.tables.Table.{Table}
-
--- the words of the first row with this number
-abbrev pub name_of : Table → ℕ → Option (List ℕ)
-name_of table number = option_map (λ row. row.1.now) (find (λ row. row.0 == number) table.0.now)
 
 -- the parameters of E1.37-2
 abbrev pub network_names : List (ℕ × List ℕ)

@@ -1,6 +1,6 @@
 //! What no clause says: what is drawn of a trace, and how one is read that isn't whole.
 
-use rdm_chart::{ChartError, Named, chart, put_escaped};
+use rdm_chart::{ChartError, Named, chart};
 use rdm_frame::Uid;
 use rdm_words::Known;
 use std::alloc::{AllocError, Global};
@@ -24,14 +24,6 @@ heard message
 message 31 0403 0000 -
 end
 ";
-
-#[test]
-fn texts_are_escaped(rt: HostRuntime) {
-    let mut markup = String::from_str(rt.alloc(), "<text>").expect(&rt, "memory");
-    put_escaped(&mut markup, "a<b> & \"20 °C\"\t\r\u{1F}\u{FFFF}'").expect(&rt, "memory");
-    let expected = "<text>a&lt;b&gt; &amp; &quot;20 °C&quot;\t\u{FFFD}\u{FFFD}\u{FFFD}'";
-    assert!(rt; markup.as_str() == expected);
-}
 
 /// How often a part stands in the chart of a trace.
 fn count(svg: &[u8], part: &str) -> usize {

@@ -1,8 +1,6 @@
 //! What no clause says: the report and the JUnit XML of expectations; and expectations that were judged by hand.
 
-use rdm_expect::{
-    SheetError, judge, parse, put_escaped, put_junit, put_report, put_suite, put_suites,
-};
+use rdm_expect::{SheetError, judge, parse, put_junit, put_report, put_suite, put_suites};
 use rdm_frame::Uid;
 use rdm_trace::lines_of;
 use std::alloc::Global;
@@ -37,7 +35,7 @@ end
 ";
 
 /// DISC_UNIQUE_BRANCH, answered by the device; with the answer lost, and altered; with 7 bytes of the preamble lost, and 8; by another device;
-/// and by nobody.
+/// and by nobody. Then GET IDENTIFY_DEVICE, to which the device gives the same answer.
 const SEARCH: &[u8] =
     b"send CC0124FFFFFFFFFFFF7FF00000000201010000001000010C000000000000FFFFFFFFFFFF0E75
 reply FEFEFEFEFEFEFEAAFF7FFAF5AA55AA55AA55AB55AF57EA7F
@@ -60,6 +58,9 @@ heard ignored
 send CC0124FFFFFFFFFFFF7FF00000000201010000001000010C000000000000FFFFFFFFFFFF0E75
 reply none
 heard nothing
+send CC01187FF0000000017FF00000000207010000002010000003FE
+reply FEFEFEFEFEFEFEAAFF7FFAF5AA55AA55AA55AB55AF57EA7F
+heard ignored
 end
 ";
 
@@ -69,7 +70,7 @@ fn report(rt: &impl Abort, alloc: Global, trace: &[u8], text: &[u8]) -> String {
     let lines = lines_of(alloc, trace).expect(rt, "a trace");
     let verdicts = judge(alloc, DEVICE, &sheet.expectations, &lines).expect(rt, "memory");
     let mut report = String::new(alloc);
-    put_report(&mut report, &sheet.expectations, &verdicts).expect(rt, "memory");
+    put_report(&mut report, None, &sheet.expectations, &verdicts).expect(rt, "memory");
     report
 }
 
@@ -184,13 +185,16 @@ disc 6
 expect found
 disc 7
 expect found
-expect nothing";
+expect nothing
+get 8
+expect found";
     let wanted = "line 4: expected found, got nothing
 line 6: expected found, got something that isn't a reply to it
 line 10: expected found, got something that isn't a reply to it
 line 12: expected found, got something that isn't a reply to it
 line 14: expected found, got nothing
-3 passed, 5 failed
+line 17: expected found, got something that isn't a reply to it
+3 passed, 6 failed
 ";
     let report = report(&rt, rt.alloc(), SEARCH, text);
     assert!(rt; report.as_str() == wanted, "{report}");
@@ -326,11 +330,4 @@ fn suites_are_one_document(rt: HostRuntime) {
     let mut markup = String::new(rt.alloc());
     put_suites(&mut markup, suites.as_str()).expect(&rt, "memory");
     assert!(rt; markup.as_str() == SUITES, "{markup}");
-}
-
-#[test]
-fn attributes_are_escaped(rt: HostRuntime) {
-    let mut markup = String::new(rt.alloc());
-    put_escaped(&mut markup, "a\t\n\r\u{0}\u{1F}\u{FFFF}'ä").expect(&rt, "memory");
-    assert!(rt; markup.as_str() == "a&#9;&#10;&#13;\u{FFFD}\u{FFFD}\u{FFFD}'ä");
 }

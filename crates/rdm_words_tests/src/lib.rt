@@ -1,4 +1,4 @@
-//! The tests of rdm_words, rdm_entry, rdm_capture, rdm_chart and rdm_expect, in a crate of their own: a crate with tests is proved twice.
+//! The tests of rdm_words, rdm_entry, rdm_capture, rdm_chart, rdm_expect and rdm_markup, in a crate of their own: a crate with tests is proved twice.
 #![tactic(auto)]
 
 #[cfg(test)]
@@ -11,5 +11,7 @@ mod entry;
 mod entry_words;
 #[cfg(test)]
 mod expect;
+#[cfg(test)]
+mod markup;
 #[cfg(test)]
 mod tests;

@@ -24,13 +24,16 @@ pub(crate) struct Way {
     kinds: [Kind; 2],
 }
 
+/// Each command is waited for.
+pub(crate) const BY_ONE: Way = Way {
+    name: "by one, first worker",
+    batch: 1,
+    kinds: [Kind::LampState; 2],
+};
+
 /// Three ways.
-pub(crate) const WAYS: [Way; 3] = [
-    Way {
-        name: "by one, first worker",
-        batch: 1,
-        kinds: [Kind::LampState; 2],
-    },
+pub(crate) const WAYS: &[Way] = &[
+    BY_ONE,
     Way {
         name: "by eight, first worker",
         batch: 8,

@@ -2,17 +2,23 @@
 
 ghost use Rattle.std.specs.Prelude.{◌<◌};
 
-use super::{REQUEST, bytes_in};
+use super::REQUEST;
 use rdm_frame::{Frame, FrameError, decode};
 use std::process::Abort;
 
 /// The controller gives the device a label of 32 letters.
-const LABEL: &str =
-    "CC 01 38 7F F0 00 00 00 01 7F F0 00 00 00 02 00 01 00 00 00 30 00 82 20 41*32 0C D9";
+const LABEL: &[u8] = &[
+    0xCC, 0x01, 0x38, 0x7F, 0xF0, 0x00, 0x00, 0x00, 0x01, 0x7F, 0xF0, 0x00, 0x00, 0x00, 0x02, 0x00,
+    0x01, 0x00, 0x00, 0x00, 0x30, 0x00, 0x82, 0x20, 0x41, 0x41, 0x41, 0x41, 0x41, 0x41, 0x41, 0x41,
+    0x41, 0x41, 0x41, 0x41, 0x41, 0x41, 0x41, 0x41, 0x41, 0x41, 0x41, 0x41, 0x41, 0x41, 0x41, 0x41,
+    0x41, 0x41, 0x41, 0x41, 0x41, 0x41, 0x41, 0x41, 0x0C, 0xD9,
+];
 
 /// A request whose data the first request doesn't have.
-const WITH_DATA: &str =
-    "CC 01 19 7F F0 00 00 00 01 7F F0 00 00 00 02 00 01 00 00 00 20 10 00 01 00 03 F9";
+const WITH_DATA: &[u8] = &[
+    0xCC, 0x01, 0x19, 0x7F, 0xF0, 0x00, 0x00, 0x00, 0x01, 0x7F, 0xF0, 0x00, 0x00, 0x00, 0x02, 0x00,
+    0x01, 0x00, 0x00, 0x00, 0x20, 0x10, 0x00, 0x01, 0x00, 0x03, 0xF9,
+];
 
 /// The request with another byte at one slot.
 fn altered(slot: usize, byte: u8) -> [u8; 26]
@@ -33,12 +39,10 @@ fn try_fronts(rt: &impl Abort, request: &[u8], from: usize, to: usize, error: Fr
 
 #[test]
 fn no_front_of_a_request_is_a_frame(rt: HostRuntime) {
-    let label = bytes_in(rt.alloc(), LABEL).expect(&rt, "memory");
-    let label = label.as_slice();
-    assert!(rt; decode(&REQUEST).is_ok() && decode(label).is_ok());
+    assert!(rt; decode(&REQUEST).is_ok() && decode(LABEL).is_ok());
     try_fronts(&rt, &REQUEST, 0, 26, FrameError::Short);
-    try_fronts(&rt, label, 0, 26, FrameError::Short);
-    try_fronts(&rt, label, 26, 58, FrameError::Length);
+    try_fronts(&rt, LABEL, 0, 26, FrameError::Short);
+    try_fronts(&rt, LABEL, 26, 58, FrameError::Length);
 }
 
 /// Why a request of 26 bytes with this slot altered is no frame.
@@ -69,13 +73,21 @@ fn no_request_with_an_altered_slot_is_a_frame(rt: HostRuntime) {
     }
 }
 
+/// Whether bytes are a frame, and not this one.
+fn is_other(bytes: &[u8], frame: &Frame) -> bool {
+    match decode(bytes) {
+        Ok(other) => other != *frame,
+        Err(_) => false,
+    }
+}
+
 /// Whether the request with a slot raised by one, and its checksum too, is a frame, and not this one.
 fn differs(slot: usize, frame: &Frame) -> bool
     requires { slot < 26 }
 {
     let mut text = altered(slot, REQUEST[slot].wrapping_add(1));
     text[25] = text[25].wrapping_add(1);
-    decode(&text).is_ok_and(|other| other != *frame)
+    is_other(&text, frame)
 }
 
 #[test]
@@ -84,7 +96,5 @@ fn different_frames_differ(rt: HostRuntime) {
     for slot in 3..23 {
         assert!(rt; differs(slot, &frame), "slot {slot}");
     }
-    let more = bytes_in(rt.alloc(), WITH_DATA).expect(&rt, "memory");
-    let is_other = decode(more.as_slice()).is_ok_and(|other| other != frame);
-    assert!(rt; is_other);
+    assert!(rt; is_other(WITH_DATA, &frame));
 }

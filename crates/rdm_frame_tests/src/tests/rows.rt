@@ -1,7 +1,12 @@
 //! Frames and UIDs that were worked out by hand, one a line: what is asked, and behind ` = ` what is told.
 
+/// All rows.
+pub(super) const ALL: &[&str] = &[
+    FRAMES, REFUSALS, SUMS, BOUNDS, DIFFERENT, UIDS, NO_UIDS, DISCOVERY,
+];
+
 /// Frames, and what they say.
-pub(super) const FRAMES: &str = r#"# The controller asks the device whether it identifies itself.
+const FRAMES: &str = r#"# The controller asks the device whether it identifies itself.
 frame CC 01 18 7F F0 00 00 00 01 7F F0 00 00 00 02 00 01 00 00 00 20 10 00 00 03 F7 = to 7FF0:00000001 from 7FF0:00000002, transaction 0, port 1, count 0, sub 0, class 20, pid 1000, data []
 # The device answers that it doesn't.
 frame CC 01 19 7F F0 00 00 00 02 7F F0 00 00 00 01 00 00 00 00 00 21 10 00 01 00 03 F9 = to 7FF0:00000002 from 7FF0:00000001, transaction 0, port 0, count 0, sub 0, class 21, pid 1000, data [0]
@@ -13,7 +18,7 @@ frame CC 01 1A 7F F0 00 00 00 02 7F F0 00 00 00 01 01 02 00 00 00 21 10 00 02 00
 frame CC 01 19 FF FF FF FF FF FF 7F F0 00 00 00 02 00 01 00 00 00 30 10 00 01 01 08 94 = to FFFF:FFFFFFFF from 7FF0:00000002, transaction 0, port 1, count 0, sub 0, class 30, pid 1000, data [1]"#;
 
 /// The first request, altered or cut: bytes that are no frame, and the first of six tests that they fail.
-pub(super) const REFUSALS: &str = r#"frame = Short: fewer bytes than the shortest frame
+const REFUSALS: &str = r#"frame = Short: fewer bytes than the shortest frame
 frame CC 01 18 7F F0 00 00 00 01 7F F0 00 00 00 02 00 01 00 00 00 20 10 00 00 03 = Short: fewer bytes than the shortest frame
 frame 00 01 18 7F F0 00 00 00 01 7F F0 00 00 00 02 00 01 00 00 00 20 10 00 00 03 F7 = Start: wrong START code
 frame CC 02 18 7F F0 00 00 00 01 7F F0 00 00 00 02 00 01 00 00 00 20 10 00 00 03 F7 = SubStart: wrong sub-START code
@@ -23,7 +28,7 @@ frame CC 01 18 7F F0 00 00 00 01 7F F0 00 00 00 02 00 01 00 00 00 20 10 00 01 03
 frame CC 01 18 7F F0 00 00 00 01 7F F0 00 00 00 02 00 01 00 00 00 20 10 00 00 03 F6 = Checksum: wrong checksum"#;
 
 /// Slots, and the sum of them.
-pub(super) const SUMS: &str = r#"sum = 0000
+const SUMS: &str = r#"sum = 0000
 sum CC = 00CC
 sum CC 01 18 7F F0 00 00 = 0254
 sum CC 01 18 7F F0 00 00 00 = 0254
@@ -32,7 +37,7 @@ sum CC 01 18 7F F0 00 00 00 01 7F F0 00 00 00 02 00 01 00 00 00 20 10 00 00 03 =
 sum FF*257 = FFFF"#;
 
 /// Each kind of bytes has its bound. `41*231` is 231 times the byte 41.
-pub(super) const BOUNDS: &str = r#"Body 41*231 = taken
+const BOUNDS: &str = r#"Body 41*231 = taken
 Body 41*232 = too long
 Wire 41*257 = taken
 Wire 41*258 = too long
@@ -42,7 +47,7 @@ Text 41*32 = taken
 Text 41*33 = too long"#;
 
 /// Texts that differ from the label "Fixture", and itself.
-pub(super) const DIFFERENT: &str = r#"# "Fixture" and ""
+const DIFFERENT: &str = r#"# "Fixture" and ""
 alike = different
 # "Fixture" and "Fixtur"
 alike 46 69 78 74 75 72 = different
@@ -68,7 +73,7 @@ uid 09AF:0123ABCD = 09AF:0123ABCD, number 09AF0123ABCD, broadcast: false, all of
 uid 09af:0123aBcD = 09AF:0123ABCD, number 09AF0123ABCD, broadcast: false, all of its maker: false, all: false, addresses 7FF0:00000001: false"#;
 
 /// Texts of no UID.
-pub(super) const NO_UIDS: &str =
+const NO_UIDS: &str =
     r#"uid = UidError: a UID is four hexadecimal digits, a colon and eight hexadecimal digits
 uid 7FF0:0000001 = UidError: a UID is four hexadecimal digits, a colon and eight hexadecimal digits
 uid 7FF0:000000001 = UidError: a UID is four hexadecimal digits, a colon and eight hexadecimal digits
@@ -77,8 +82,7 @@ uid 7FG0:00000001 = UidError: a UID is four hexadecimal digits, a colon and eigh
 uid +FF0:00000001 = UidError: a UID is four hexadecimal digits, a colon and eight hexadecimal digits"#;
 
 /// The answer to DISC_UNIQUE_BRANCH of a UID, and the UID of such an answer, which may have lost up to seven bytes at its front.
-pub(super) const DISCOVERY: &str =
-    r#"reply 7FF0:00000001 = FEFEFEFEFEFEFEAAFF7FFAF5AA55AA55AA55AB55AF57EA7F
+const DISCOVERY: &str = r#"reply 7FF0:00000001 = FEFEFEFEFEFEFEAAFF7FFAF5AA55AA55AA55AB55AF57EA7F
 branch FE FE FE FE FE FE FE AA FF 7F FA F5 AA 55 AA 55 AA 55 AB 55 AF 57 EA 7F = 7FF0:00000001
 branch FE FE FE FE FE FE AA FF 7F FA F5 AA 55 AA 55 AA 55 AB 55 AF 57 EA 7F = 7FF0:00000001
 branch FE FE FE FE FE AA FF 7F FA F5 AA 55 AA 55 AA 55 AB 55 AF 57 EA 7F = 7FF0:00000001

@@ -105,7 +105,7 @@ fn an_image_of_another_key_is_none(rt: HostRuntime) {
 }
 
 /// The words for why there is no image, and for why nothing was saved.
-const WORDS: &str = "the image is cut
+const WORDS: &str = "the image is truncated
 the image is altered
 the image is of another key
 the buffer isn't of the size of an area

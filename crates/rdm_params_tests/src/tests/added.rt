@@ -1,41 +1,21 @@
 //! A fixture with parameters of its maker's own, which lacks some of the table's.
 
+use super::fitting::plays_on;
 use super::*;
 
-/// The colour temperature of the fixture.
-fn colour() -> ParameterDef {
-    let mut def = parameter(
-        0x8001,
-        Rights::Both,
-        Shape::Word,
-        (2000, 8000),
-        &[0x15, 0xE0],
-    );
-    def.unit = 0x1C;
-    def.prefix = 0x11;
-    def.name = Text::of(b"Colour temperature");
-    def.resets = true;
-    def
-}
-
 /// A demonstration device with five parameters of its own, one of which is in E1.37-1, and without four of the table's.
-fn wash(rt: &impl Abort, alloc: Global) -> Profile {
-    let identify = parameter(0x1040, Rights::Both, Shape::Byte, (0, 1), &[0]);
-    let hours = parameter(0x8002, Rights::Get, Shape::Long, (0, 9), &[0, 0, 0, 7]);
-    let trim = parameter(0x8010, Rights::Both, Shape::SignedByte, (-20, 20), &[0xFF]);
-    let show = parameter(0x8020, Rights::Set, Shape::Text, (0, 0), b"Show");
-    let mut particular = Particular::usual();
-    let own = &mut particular.own;
-    add(rt, alloc, own, identify);
-    add(rt, alloc, own, colour());
-    add(rt, alloc, own, hours);
-    add(rt, alloc, own, trim);
-    add(rt, alloc, own, show);
-    for pid in [0x0402, 0x0600, 0x0601, 0x0602] {
-        assert!(rt; particular.without.try_push(pid).is_ok());
-    }
-    set_apart(rt, alloc, 1, particular)
-}
+const WASH: &str = "
+subs 1
+keeps 1040 both byte 0 1 00
+resets 8001 both word 2000 8000 15 E0 : 1C 11 'Colour temperature'
+keeps 8002 get long 0 9 00 00 00 07
+keeps 8010 both signed-byte -20 20 FF
+keeps 8020 set text 0 0 'Show'
+lacks 0402
+lacks 0600
+lacks 0601
+lacks 0602
+";
 
 const STEPS: &str = "
 get 0000 8001 = ack 15 E0
@@ -88,8 +68,7 @@ get 0000 0050 00 = nack format error
 
 #[test]
 fn a_fixture_has_the_parameters_that_it_has(rt: HostRuntime) {
-    let profile = wash(&rt, rt.alloc());
-    plays(&rt, &mut made(&rt, rt.alloc(), profile), STEPS);
+    plays_on(&rt, rt.alloc(), &[WASH], STEPS);
 }
 
 /// The demonstration has no description.
@@ -114,8 +93,7 @@ get 0000 0090 = ack 01
 
 #[test]
 fn factory_defaults_set_back_what_says_so(rt: HostRuntime) {
-    let profile = wash(&rt, rt.alloc());
-    plays(&rt, &mut made(&rt, rt.alloc(), profile), DEFAULTS);
+    plays_on(&rt, rt.alloc(), &[WASH], DEFAULTS);
 }
 
 /// What firmware places at the fixture: the sub-device, the PID, the data, and why it is refused.
@@ -131,9 +109,6 @@ place 0002 8001 1F 40 = no device
 place 0000 0051 80 01 = no value
 // What the fixture lacks.
 place 0000 0402 00 00 00 01 = no value
-";
-
-const SHOWN: &str = "
 get 0000 8002 = ack 00 00 00 09
 get 0000 8001 = ack 1F 40
 get 0000 0090 = ack 00
@@ -141,8 +116,5 @@ get 0000 0090 = ack 00
 
 #[test]
 fn what_is_placed_of_its_own_is_shown(rt: HostRuntime) {
-    let profile = wash(&rt, rt.alloc());
-    let mut devices = made(&rt, rt.alloc(), profile);
-    plays(&rt, &mut devices, PLACED);
-    plays(&rt, &mut devices, SHOWN);
+    plays_on(&rt, rt.alloc(), &[WASH], PLACED);
 }

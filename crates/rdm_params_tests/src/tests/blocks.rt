@@ -1,55 +1,24 @@
 //! DMX_BLOCK_ADDRESS: where the slots of all sub-devices lie.
 
+use super::fitting::{is_each_made, plays_on};
 use super::*;
 
-/// A parameter that tells where the slots of all sub-devices lie.
-fn block() -> ParameterDef {
-    parameter(0x0140, Rights::Both, Shape::Block, (0, 0), &[])
-}
+/// A dimmer whose sub-devices have personalities that use one slot, two slots and none, and that tells where the slots of all of them lie.
+const RACK: &str = "
+keeps 0140 both block 0 0
+cells bare
+cells personality 1
+cells personality 2
+cells personality 0
+";
 
-/// One that uses so many slots.
-fn personality(footprint: u16) -> Personality {
-    Personality {
-        footprint,
-        name: Text::new(),
-    }
-}
-
-/// A dimmer with so many sub-devices, whose personalities use one slot, two slots and none, and with a lock of state 1 of this
-/// parameter, if there is one.
-fn rack(rt: &impl Abort, alloc: Global, subs: u16, locked: Option<u16>) -> Devices {
-    let mut particular = Particular::usual();
-    add(rt, alloc, &mut particular.own, block());
-    if let Some(pid) = locked {
-        lock_up(rt, alloc, &mut particular, pid);
-    }
-    let mut profile = set_apart(rt, alloc, subs, particular);
-    let uses = &mut profile.sub.personalities;
-    uses.clear();
-    uses.push(personality(1));
-    uses.push(personality(2));
-    uses.push(personality(0));
-    made(rt, alloc, profile)
-}
-
-/// Adds a lock of this parameter in state 1, which the device starts with.
-fn lock_up(rt: &impl Abort, alloc: Global, particular: &mut Particular, pid: u16) {
-    let pin = parameter(0x0640, Rights::Both, Shape::Pin, (0, 9999), &[0, 0]);
-    let state = parameter(0x0641, Rights::Both, Shape::Lock, (0, 1), &[1]);
-    let names = parameter(0x0642, Rights::Get, Shape::Names, (0, 0), &[]);
-    let own = &mut particular.own;
-    add(rt, alloc, own, pin);
-    add(rt, alloc, own, state);
-    add(rt, alloc, own, names);
-    add_name(
-        rt,
-        alloc,
-        &mut particular.choices,
-        (0x0642, 1, 0),
-        b"Locked",
-    );
-    add_locks(rt, alloc, &mut particular.locks, &[(1, pid)]);
-}
+/// What it also has where it starts in the only state of a lock.
+const LOCK: &str = "
+keeps 0640 both pin 0 9999 00 00
+keeps 0641 both lock 0 1 01
+keeps 0642 get names 0 0
+name 0642 1 0 'Locked'
+";
 
 const STEPS: &str = "
 // All start at 1, and so don't follow one another.
@@ -109,7 +78,7 @@ get 0002 00F0 = ack 00 07
 
 #[test]
 fn a_block_is_told_and_moved(rt: HostRuntime) {
-    plays(&rt, &mut rack(&rt, rt.alloc(), 3, None), STEPS);
+    plays_on(&rt, rt.alloc(), &["subs 3", RACK], STEPS);
 }
 
 const NO_BLOCK: &str = "
@@ -119,7 +88,7 @@ set 0000 0140 00 01 = nack data out of range
 
 #[test]
 fn without_sub_devices_there_is_no_block(rt: HostRuntime) {
-    plays(&rt, &mut rack(&rt, rt.alloc(), 0, None), NO_BLOCK);
+    plays_on(&rt, rt.alloc(), &["subs 0", RACK], NO_BLOCK);
 }
 
 /// A lock of the block, and one of the start address.
@@ -141,9 +110,10 @@ set 0004 0140 00 05 = nack sub-device out of range
 
 #[test]
 fn a_block_is_locked_with_its_start_addresses(rt: HostRuntime) {
-    for (locked, steps) in [(0x0140, LOCKED), (0x00F0, STARTS_LOCKED)] {
-        plays(&rt, &mut rack(&rt, rt.alloc(), 2, Some(locked)), steps);
-    }
+    let of_block = &["subs 2", RACK, LOCK, "lock 1 0140"];
+    plays_on(&rt, rt.alloc(), of_block, LOCKED);
+    let of_start = &["subs 2", RACK, LOCK, "lock 1 00F0"];
+    plays_on(&rt, rt.alloc(), of_start, STARTS_LOCKED);
 }
 
 /// The sub-devices keep where it begins.
@@ -155,7 +125,7 @@ place 0000 0140 00 0A = no value
 
 #[test]
 fn a_block_can_not_be_placed(rt: HostRuntime) {
-    plays(&rt, &mut rack(&rt, rt.alloc(), 2, None), PLACED);
+    plays_on(&rt, rt.alloc(), &["subs 2", RACK], PLACED);
 }
 
 const CHANGED: &str = "
@@ -167,27 +137,24 @@ tell 0000 0140 00 00 = nothing
 
 #[test]
 fn a_block_tells_that_several_values_changed(rt: HostRuntime) {
-    plays(&rt, &mut rack(&rt, rt.alloc(), 2, None), CHANGED);
+    plays_on(&rt, rt.alloc(), &["subs 2", RACK], CHANGED);
 }
 
-/// A PID, commands, data and what these start with, and whether a profile can have them.
-type Had = (u16, Rights, Shape, &'static [u8], bool);
-
 /// A block can be read alone. It is no order, has this PID and no data, and is none of the maker's.
-const HAD: &[Had] = &[
-    (0x0140, Rights::Both, Shape::Block, &[], true),
-    (0x0140, Rights::Get, Shape::Block, &[], true),
-    (0x0140, Rights::Set, Shape::Block, &[], false),
-    (0x0141, Rights::Both, Shape::Block, &[], false),
-    (0x0140, Rights::Both, Shape::Word, &[0, 0], false),
-    (0x8000, Rights::Both, Shape::Block, &[], false),
-];
+const HAD: &str = "<parameter> | <told>
+0140 both block 0 0 | made
+0140 get block 0 0 | made
+0140 set block 0 0 | bad profile
+0141 both block 0 0 | bad profile
+0140 both word 0 0 00 00 | bad profile
+8000 both block 0 0 | bad profile";
+
+const TWO_SUB_DEVICES: &str = "
+subs 2
+keeps <parameter>
+";
 
 #[test]
 fn a_block_is_no_order_and_has_no_data(rt: HostRuntime) {
-    for (pid, rights, shape, start, good) in HAD {
-        let def = parameter(*pid, *rights, *shape, (0, 0), start);
-        let told = refusal_with(&rt, rt.alloc(), 2, def);
-        assert!(&rt; told.is_none() == *good, "{pid:04X} {rights:?} {shape:?}");
-    }
+    is_each_made(&rt, rt.alloc(), HAD, TWO_SUB_DEVICES);
 }

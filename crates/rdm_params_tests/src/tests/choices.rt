@@ -1,51 +1,21 @@
 //! A fixture with choices of E1.37-1: curves, response times and frequencies, and what they are called.
 
+use super::fitting::{is_each_made, is_made, plays_on};
 use super::*;
 
-/// A choice of so many things, of which the first is chosen.
-fn choice(pid: u16, count: i64) -> ParameterDef {
-    let mut def = parameter(pid, Rights::Both, Shape::Choice, (1, count), &[1]);
-    def.resets = true;
-    def
-}
-
-/// The parameter that tells what the things of a choice are called.
-fn told(pid: u16, shape: Shape) -> ParameterDef {
-    parameter(pid, Rights::Get, shape, (0, 0), &[])
-}
-
-/// Adds these names, of which the first is that of the thing with number 1.
-fn name(
-    rt: &impl Abort,
-    alloc: Global,
-    choices: &mut ChoiceNames,
-    pid: u16,
-    names: &[(u32, &[u8])],
-) {
-    let mut number = 0u8;
-    for (hertz, text) in names {
-        assert!(rt; number < 255);
-        number += 1;
-        add_name(rt, alloc, choices, (pid, number, *hertz), text);
-    }
-}
-
-const CURVES: &[(u32, &'static [u8])] = &[(0, b"Linear"), (0, b"Square law"), (0, b"S")];
-
-const RATES: &[(u32, &'static [u8])] = &[(120, b"120 Hz"), (10_000, b"10 kHz")];
-
-/// A demonstration device with a choice of three curves and of two frequencies.
-fn dimmer(rt: &impl Abort, alloc: Global) -> Profile {
-    let mut particular = Particular::usual();
-    let own = &mut particular.own;
-    add(rt, alloc, own, choice(0x0343, 3));
-    add(rt, alloc, own, told(0x0344, Shape::Names));
-    add(rt, alloc, own, choice(0x0347, 2));
-    add(rt, alloc, own, told(0x0348, Shape::Rates));
-    name(rt, alloc, &mut particular.choices, 0x0344, CURVES);
-    name(rt, alloc, &mut particular.choices, 0x0348, RATES);
-    set_apart(rt, alloc, 1, particular)
-}
+/// A demonstration device with a choice of three curves and of two frequencies, of which the first is chosen.
+const DIMMER: &str = "
+subs 1
+resets 0343 both choice 1 3 01
+keeps 0344 get names 0 0
+resets 0347 both choice 1 2 01
+keeps 0348 get rates 0 0
+name 0344 1 0 'Linear'
+name 0344 2 0 'Square law'
+name 0344 3 0 'S'
+name 0348 1 120 '120 Hz'
+name 0348 2 10000 '10 kHz'
+";
 
 const STEPS: &str = "
 // Which one is chosen, of how many.
@@ -79,72 +49,48 @@ get 0000 0343 = ack 01 03
 
 #[test]
 fn choices_are_named(rt: HostRuntime) {
-    let profile = dimmer(&rt, rt.alloc());
-    plays(&rt, &mut made(&rt, rt.alloc(), profile), STEPS);
+    plays_on(&rt, rt.alloc(), &[DIMMER], STEPS);
 }
 
 const PLACED: &str = "
 place 0000 0344 = no value
 place 0000 0348 = no value
 place 0000 0343 02 = ok
-";
-
-const CHOSEN: &str = "
 get 0000 0343 = ack 02 03
 ";
 
 /// Names are the profile's, and what is chosen is placed as a value.
 #[test]
 fn names_of_choices_can_not_be_placed(rt: HostRuntime) {
-    let profile = dimmer(&rt, rt.alloc());
-    let mut devices = made(&rt, rt.alloc(), profile);
-    plays(&rt, &mut devices, PLACED);
-    plays(&rt, &mut devices, CHOSEN);
+    plays_on(&rt, rt.alloc(), &[DIMMER], PLACED);
 }
 
-/// A choice of so many things, if there is one, what tells their names, if something does, and the names.
-type Unnamed = (
-    Option<(u16, i64)>,
-    Option<(u16, Shape)>,
-    &'static [(u32, &'static [u8])],
-);
+/// A choice, what tells the names of its things, the PID of which they are, and whether the profile is good.
+const UNNAMED: &str = "<choice> | <teller> | <pid> | <told>
+// Nothing tells the names.
+resets 0343 both choice 1 3 01 | // | 0344 | bad profile
+// There is one too few.
+resets 0343 both choice 1 4 01 | keeps 0344 get names 0 0 | 0344 | bad profile
+// There is one too many.
+resets 0343 both choice 1 2 01 | keeps 0344 get names 0 0 | 0344 | bad profile
+// Curves have no frequencies.
+resets 0343 both choice 1 3 01 | keeps 0344 get rates 0 0 | 0344 | bad profile
+// A maker's own parameter is no choice.
+resets 8001 both choice 1 3 01 | keeps 8002 get names 0 0 | 8002 | bad profile";
 
-const UNNAMED: &[Unnamed] = &[
-    // Nothing tells the names.
-    (Some((0x0343, 3)), None, CURVES),
-    // There is one too few.
-    (Some((0x0343, 4)), Some((0x0344, Shape::Names)), CURVES),
-    // There is one too many.
-    (Some((0x0343, 2)), Some((0x0344, Shape::Names)), CURVES),
-    // Curves have no frequencies.
-    (Some((0x0343, 3)), Some((0x0344, Shape::Rates)), CURVES),
-    // A maker's own parameter is no choice.
-    (Some((0x8001, 3)), Some((0x8002, Shape::Names)), CURVES),
-    // Names without a choice.
-    (None, Some((0x0344, Shape::Names)), &[]),
-];
+const THREE_NAMES: &str = "
+<choice>
+<teller>
+name <pid> 1 0 'Linear'
+name <pid> 2 0 'Square law'
+name <pid> 3 0 'S'
+";
+
+/// What tells names, without a choice and without names.
+const NO_CHOICE: &str = "keeps 0344 get names 0 0";
 
 #[test]
 fn a_choice_has_a_name_for_each(rt: HostRuntime) {
-    for row in UNNAMED {
-        let particular = unnamed(&rt, rt.alloc(), row);
-        let profile = set_apart(&rt, rt.alloc(), 0, particular);
-        assert!(&rt; refusal(rt.alloc(), profile) == BAD, "{row:?}");
-    }
-}
-
-/// What a row says, with the names as those that CURVE_DESCRIPTION tells where nothing else does.
-fn unnamed(rt: &impl Abort, alloc: Global, (first, second, names): &Unnamed) -> Particular {
-    let mut particular = Particular::usual();
-    let own = &mut particular.own;
-    if let Some((pid, count)) = first {
-        add(rt, alloc, own, choice(*pid, *count));
-    }
-    let mut teller = 0x0344;
-    if let Some((pid, shape)) = second {
-        add(rt, alloc, own, told(*pid, *shape));
-        teller = *pid;
-    }
-    name(rt, alloc, &mut particular.choices, teller, names);
-    particular
+    is_each_made(&rt, rt.alloc(), UNNAMED, THREE_NAMES);
+    is_made(&rt, rt.alloc(), NO_CHOICE, "bad profile");
 }

@@ -1,5 +1,6 @@
 //! Sub-devices, all-call, and the greatest profile.
 
+use super::fitting::fitted;
 use super::*;
 
 pub(super) const RUNS: &[Run] = &[(2, OWN_VALUES), (0, NO_SUB_DEVICE), (3, ALL_CALL)];
@@ -35,7 +36,7 @@ const LAMP_ON: Answer = Answer::Starts {
 const ANSWERED: &[Answered] = &[
     (Set, 0x1000, &[1], Answer::Done, &[]),
     (Get, 0x1000, &[], Answer::Done, &[1]),
-    (Get, 0x1000, &[1], Answer::Refused(FormatError), &[]),
+    (Get, 0x1000, &[1], Answer::Refused(Nack::FormatError), &[]),
     (Set, 0x0403, &[1], LAMP_ON, &[]),
 ];
 
@@ -94,12 +95,7 @@ get 0000 00F0 = ack 00 01
 ";
 
 /// Three cells, each with a second personality that uses no slots.
-fn cells(rt: &impl Abort) -> Profile {
-    let mut profile = Profile::demo(3);
-    let blank = Personality::default();
-    assert!(rt; profile.sub.personalities.try_push(blank).is_ok());
-    profile
-}
+const CELLS: &[&str] = &["subs 3", "cells personality 0"];
 
 /// Whether start address 9 is in range for a SET there.
 fn takes_9(devices: &Devices, sub: u16) -> bool {
@@ -108,7 +104,7 @@ fn takes_9(devices: &Devices, sub: u16) -> bool {
 
 #[test]
 fn all_call_changes_all_or_none(rt: HostRuntime) {
-    let mut devices = made(&rt, rt.alloc(), cells(&rt));
+    let mut devices = made(&rt, rt.alloc(), fitted(&rt, rt.alloc(), CELLS));
     plays(&rt, &mut devices, NONE_CHANGES);
     assert!(rt; !takes_9(&devices, 0xFFFF) && takes_9(&devices, 1));
     plays(&rt, &mut devices, ALL_CHANGE);
@@ -142,24 +138,23 @@ fn greatest(rt: &impl Abort) -> Profile {
 fn add_mode(rt: &impl Abort, profile: &mut Profile, number: u8) {
     let (name, footprint) = (longest(), 46);
     let personality = Personality { footprint, name };
-    assert!(rt; profile.root.personalities.try_push(personality).is_ok());
-    assert!(rt; profile.languages.try_push(0x6161 + number as u16).is_ok());
+    let is_added = profile.root.personalities.try_push(personality).is_ok()
+        && profile.languages.try_push(0x6161 + number as u16).is_ok();
+    assert!(rt; is_added);
 }
 
 /// Adds a self test, a status text and a sensor.
 fn add_named(rt: &impl Abort, profile: &mut Profile, number: u8) {
-    let name = longest();
-    assert!(rt; profile.tests.try_push(SelfTest { number, name }).is_ok());
-    let (id, text) = (0x9000 + number as u16, longest());
-    assert!(rt;
-        profile
+    let (id, name, text) = (0x9000 + number as u16, longest(), longest());
+    let mut sensor = SensorDef::default();
+    sensor.name = longest();
+    let is_added = profile.tests.try_push(SelfTest { number, name }).is_ok()
+        && profile
             .status_texts
             .try_push(StatusText { id, text })
             .is_ok()
-    );
-    let mut sensor = SensorDef::default();
-    sensor.name = longest();
-    assert!(rt; profile.sensors.try_push(sensor).is_ok());
+        && profile.sensors.try_push(sensor).is_ok();
+    assert!(rt; is_added);
 }
 
 /// What the devices of the greatest profile reply, with the last personality.

@@ -1,49 +1,34 @@
 //! LOCK_PIN and LOCK_STATE: which parameters a lock keeps from being set, and who may set it.
 
+use super::fitting::{is_each_made, plays_on};
+use super::play::filled;
 use super::*;
 
-/// What the lock states are called.
-const STATES: [(u8, &'static [u8]); 2] = [(1, b"Address"), (2, b"Address, hours")];
+/// A demonstration device with a PIN, in whose state 1 the start address is locked, and in state 2 also the burn in time and one more
+/// parameter. It has no DISPLAY_LEVEL.
+const RACK: &str = "
+subs 1
+keeps 0440 both byte 0 255 00
+<pin>
+keeps 0641 <state> lock 0 2 00
+keeps 0642 get names 0 0
+name 0642 1 0 'Address'
+name 0642 2 0 'Address, hours'
+lock 1 00F0
+lock 2 00F0
+lock 2 0440
+lock 2 <locked>
+lacks 0501
+";
 
-/// A demonstration device with PIN 0439, if these are its commands, in whose state 1 the start address is locked, and in state 2 also the
-/// burn in time and this parameter.
-fn profile_with(
-    rt: &impl Abort,
-    alloc: Global,
-    pin_rights: Option<Rights>,
-    state_rights: Rights,
-    locked: u16,
-) -> Profile {
-    let burn_in = parameter(0x0440, Rights::Both, Shape::Byte, (0, 255), &[0]);
-    let state = parameter(0x0641, state_rights, Shape::Lock, (0, 2), &[0]);
-    let names = parameter(0x0642, Rights::Get, Shape::Names, (0, 0), &[]);
-    let mut particular = Particular::usual();
-    let own = &mut particular.own;
-    add(rt, alloc, own, burn_in);
-    if let Some(rights) = pin_rights {
-        let pin = parameter(0x0640, rights, Shape::Pin, (0, 9999), &[0x01, 0xB7]);
-        add(rt, alloc, own, pin);
-    }
-    add(rt, alloc, own, state);
-    add(rt, alloc, own, names);
-    name_states(rt, alloc, &mut particular.choices);
-    let locks = [(1, 0x00F0), (2, 0x00F0), (2, 0x0440), (2, locked)];
-    add_locks(rt, alloc, &mut particular.locks, &locks);
-    assert!(rt; particular.without.try_push(0x0501).is_ok());
-    set_apart(rt, alloc, 1, particular)
+/// Plays rows on it, with the commands of LOCK_STATE, the parameter that is locked in state 2, and the PIN.
+fn plays_rack(rt: &impl Abort, alloc: Global, cells: &str, rows: &str) {
+    let names = "<state> | <locked> | <pin>";
+    plays_on(rt, alloc, &[&filled(rt, alloc, RACK, names, cells)], rows);
 }
 
-fn name_states(rt: &impl Abort, alloc: Global, names: &mut ChoiceNames) {
-    for (number, text) in &STATES {
-        add_name(rt, alloc, names, (0x0642, *number, 0), text);
-    }
-}
-
-/// Devices of it, which lock LAMP_ON_MODE in state 2.
-fn rack(rt: &impl Abort, alloc: Global, pin_rights: Rights) -> Devices {
-    let profile = profile_with(rt, alloc, Some(pin_rights), Rights::Both, 0x0404);
-    made(rt, alloc, profile)
-}
+/// The PIN and the state can be read and set, and LAMP_ON_MODE is locked.
+const LAMP_LOCKED: &str = "both | 0404 | keeps 0640 both pin 0 9999 01 B7";
 
 const STEPS: &str = "
 get 0000 0640 = ack 01 B7
@@ -86,7 +71,7 @@ set 0000 0641 = nack format error
 
 #[test]
 fn a_lock_refuses_what_it_locks(rt: HostRuntime) {
-    plays(&rt, &mut rack(&rt, rt.alloc(), Rights::Both), STEPS);
+    plays_rack(&rt, rt.alloc(), LAMP_LOCKED, STEPS);
 }
 
 /// The menu may set what is locked, and the firmware may place it.
@@ -100,7 +85,7 @@ get 0000 00F0 = ack 00 09
 
 #[test]
 fn the_menu_and_the_firmware_are_not_locked(rt: HostRuntime) {
-    plays(&rt, &mut rack(&rt, rt.alloc(), Rights::Both), FREE);
+    plays_rack(&rt, rt.alloc(), LAMP_LOCKED, FREE);
 }
 
 /// FACTORY_DEFAULTS passes over what is locked, at the root, and sets it back once it is unlocked. The burn in time isn't set back.
@@ -128,50 +113,19 @@ get 0000 0090 = ack 01
 
 #[test]
 fn factory_defaults_leave_what_is_locked(rt: HostRuntime) {
-    plays(&rt, &mut rack(&rt, rt.alloc(), Rights::Both), DEFAULTS);
+    plays_rack(&rt, rt.alloc(), LAMP_LOCKED, DEFAULTS);
 }
 
 /// A colour temperature that FACTORY_DEFAULTS sets back, which starts with 2000, and that is locked in the state that the device starts with.
-fn wash(rt: &impl Abort, alloc: Global) -> Devices {
-    let mut colour = parameter(
-        0x8001,
-        Rights::Both,
-        Shape::Word,
-        (2000, 8000),
-        &[0x07, 0xD0],
-    );
-    colour.resets = true;
-    let mut particular = Particular::usual();
-    let own = &mut particular.own;
-    add(
-        rt,
-        alloc,
-        own,
-        parameter(0x0640, Rights::Both, Shape::Pin, (0, 9999), &[0, 0]),
-    );
-    add(
-        rt,
-        alloc,
-        own,
-        parameter(0x0641, Rights::Both, Shape::Lock, (0, 1), &[1]),
-    );
-    add(
-        rt,
-        alloc,
-        own,
-        parameter(0x0642, Rights::Get, Shape::Names, (0, 0), &[]),
-    );
-    add(rt, alloc, own, colour);
-    add_name(
-        rt,
-        alloc,
-        &mut particular.choices,
-        (0x0642, 1, 0),
-        b"Locked",
-    );
-    add_locks(rt, alloc, &mut particular.locks, &[(1, 0x8001)]);
-    made(rt, alloc, set_apart(rt, alloc, 1, particular))
-}
+const WASH: &str = "
+subs 1
+keeps 0640 both pin 0 9999 00 00
+keeps 0641 both lock 0 1 01
+keeps 0642 get names 0 0
+resets 8001 both word 2000 8000 07 D0
+name 0642 1 0 'Locked'
+lock 1 8001
+";
 
 const OWN_DEFAULTS: &str = "
 set 0000 8001 0F A0 = nack write protect
@@ -187,7 +141,7 @@ get 0000 8001 = ack 07 D0
 
 #[test]
 fn factory_defaults_leave_an_own_parameter_that_is_locked(rt: HostRuntime) {
-    plays(&rt, &mut wash(&rt, rt.alloc()), OWN_DEFAULTS);
+    plays_on(&rt, rt.alloc(), &[WASH], OWN_DEFAULTS);
 }
 
 /// RECORD_SENSORS would write the values of sensors.
@@ -205,8 +159,8 @@ set 0000 0202 FF = ack
 
 #[test]
 fn what_is_locked_is_not_recorded(rt: HostRuntime) {
-    let profile = profile_with(&rt, rt.alloc(), BOTH, Rights::Both, 0x0201);
-    plays(&rt, &mut made(&rt, rt.alloc(), profile), SENSORS);
+    let cells = "both | 0201 | keeps 0640 both pin 0 9999 01 B7";
+    plays_rack(&rt, rt.alloc(), cells, SENSORS);
 }
 
 /// The PIN has a SET alone: each PIN that is accepted opens, and none before it.
@@ -225,43 +179,35 @@ own 0640 = 27 0F
 
 #[test]
 fn a_pin_that_cannot_be_read_opens(rt: HostRuntime) {
-    plays(&rt, &mut rack(&rt, rt.alloc(), Rights::Set), UNREAD);
+    let cells = "both | 0404 | keeps 0640 set pin 0 9999 01 B7";
+    plays_rack(&rt, rt.alloc(), cells, UNREAD);
 }
 
-/// What LOCK_PIN and LOCK_STATE have, a parameter that is locked, and whether the profile is good.
-type Locked = (Option<Rights>, Rights, u16, bool);
-
-const BOTH: Option<Rights> = Some(Rights::Both);
-
-const LOCKED: &[Locked] = &[
-    (BOTH, Rights::Both, 0x00E0, true),
-    (Some(Rights::Get), Rights::Get, 0x00E0, true),
-    (Some(Rights::Set), Rights::Both, 0x00E0, true),
-    // Without a PIN, and with a state that can't be read.
-    (None, Rights::Both, 0x00E0, false),
-    (BOTH, Rights::Set, 0x00E0, false),
-    // A PIN can be locked, since the state opens it, and an own parameter and one without data can.
-    (BOTH, Rights::Both, 0x0640, true),
-    (BOTH, Rights::Both, 0x0440, true),
-    (BOTH, Rights::Both, 0x0032, true),
-    // The state itself; what a job carries out; what has no SET, of the table and of the maker's own; what isn't there, and what is left out.
-    (BOTH, Rights::Both, 0x0641, false),
-    (BOTH, Rights::Both, 0x0403, false),
-    (BOTH, Rights::Both, 0x1010, false),
-    (BOTH, Rights::Both, 0x1020, false),
-    (BOTH, Rights::Both, 0x0060, false),
-    (BOTH, Rights::Both, 0x0642, false),
-    (Some(Rights::Get), Rights::Both, 0x0640, false),
-    (BOTH, Rights::Both, 0x8001, false),
-    (BOTH, Rights::Both, 0x0501, false),
-    (BOTH, Rights::Both, 0x0500, true),
-];
+/// The commands of LOCK_STATE, a parameter that is locked, LOCK_PIN, and whether the profile is good.
+const LOCKED: &str = "<state> | <locked> | <pin> | <told>
+both | 00E0 | keeps 0640 both pin 0 9999 01 B7 | made
+get | 00E0 | keeps 0640 get pin 0 9999 01 B7 | made
+both | 00E0 | keeps 0640 set pin 0 9999 01 B7 | made
+// Without a PIN, and with a state that can't be read.
+both | 00E0 | // | bad profile
+set | 00E0 | keeps 0640 both pin 0 9999 01 B7 | bad profile
+// A PIN can be locked, since the state opens it, and an own parameter and one without data can.
+both | 0640 | keeps 0640 both pin 0 9999 01 B7 | made
+both | 0440 | keeps 0640 both pin 0 9999 01 B7 | made
+both | 0032 | keeps 0640 both pin 0 9999 01 B7 | made
+// The state itself; what a job carries out; what has no SET, of the table and of the maker's own; what isn't there, and what is left out.
+both | 0641 | keeps 0640 both pin 0 9999 01 B7 | bad profile
+both | 0403 | keeps 0640 both pin 0 9999 01 B7 | bad profile
+both | 1010 | keeps 0640 both pin 0 9999 01 B7 | bad profile
+both | 1020 | keeps 0640 both pin 0 9999 01 B7 | bad profile
+both | 0060 | keeps 0640 both pin 0 9999 01 B7 | bad profile
+both | 0642 | keeps 0640 both pin 0 9999 01 B7 | bad profile
+both | 0640 | keeps 0640 get pin 0 9999 01 B7 | bad profile
+both | 8001 | keeps 0640 both pin 0 9999 01 B7 | bad profile
+both | 0501 | keeps 0640 both pin 0 9999 01 B7 | bad profile
+both | 0500 | keeps 0640 both pin 0 9999 01 B7 | made";
 
 #[test]
 fn locks_that_cannot_be_opened_are_refused(rt: HostRuntime) {
-    for (pin, state, locked, good) in LOCKED {
-        let profile = profile_with(&rt, rt.alloc(), *pin, *state, *locked);
-        let told = refusal(rt.alloc(), profile);
-        assert!(&rt; told.is_none() == *good, "{pin:?} {state:?} {locked:04X}");
-    }
+    is_each_made(&rt, rt.alloc(), LOCKED, RACK);
 }

@@ -1,20 +1,16 @@
 //! Orders, which have no GET, and COMMS_STATUS, whose SET clears its counts.
 
+use super::fitting::{fitted, is_each_made, plays_on};
 use super::*;
 
-/// COMMS_STATUS; RESET_DEVICE: warm, which is 01, or cold, which is FF; and CAPTURE_PRESET.
-const ORDERS: &[Slots<'static>] = &[
-    (0x0015, Rights::Clear, false, &[0; 6], &[]),
-    (0x1001, Rights::Set, true, &[1], &[(Width::One, 1, 1, 0xFF)]),
-    (0x1030, Rights::Set, false, &[0, 1, 0, 0, 0, 0, 0, 0], &[]),
-];
-
-/// A demonstration device that counts what it couldn't read, is reset, and captures presets.
-fn rack(rt: &impl Abort, alloc: Global) -> Devices {
-    let mut own = OwnParameters::none();
-    add_slots(rt, alloc, &mut own, ORDERS);
-    made(rt, alloc, with_own(rt, alloc, 1, own))
-}
+/// A demonstration device that counts what it couldn't read, by COMMS_STATUS; is reset by RESET_DEVICE, warm, which is 01, or cold, which is
+/// FF; and captures presets.
+const RACK: &str = "
+subs 1
+keeps 0015 clear slots 0 0 00 00 00 00 00 00
+resets 1001 set slots 0 0 01 + one 1 1 255
+keeps 1030 set slots 0 0 00 01 00 00 00 00 00 00
+";
 
 const STEPS: &str = "
 get 0000 0015 = ack 00 00 00 00 00 00
@@ -33,7 +29,7 @@ get 0000 1030 = nack unsupported command class
 
 #[test]
 fn orders_have_no_get(rt: HostRuntime) {
-    plays(&rt, &mut rack(&rt, rt.alloc()), STEPS);
+    plays_on(&rt, rt.alloc(), &[RACK], STEPS);
 }
 
 /// RESET_DEVICE says each time that it was set.
@@ -55,7 +51,7 @@ tell 0000 1001 01 = value 0000 1001
 
 #[test]
 fn each_order_is_told(rt: HostRuntime) {
-    let mut devices = rack(&rt, rt.alloc());
+    let mut devices = made(&rt, rt.alloc(), fitted(&rt, rt.alloc(), &[RACK]));
     plays(&rt, &mut devices, "own 1001 = 01");
     for _ in 0..300 {
         plays(&rt, &mut devices, RESET);
@@ -74,13 +70,14 @@ tell 0000 0015 = nothing
 
 #[test]
 fn counts_are_placed_and_cleared(rt: HostRuntime) {
-    plays(&rt, &mut rack(&rt, rt.alloc()), CLEARED);
+    plays_on(&rt, rt.alloc(), &[RACK], CLEARED);
 }
 
-const COUNTS: [u8; 6] = [0, 3, 0, 1, 0, 2];
-
 /// A SET clears counts to zero also where they start with others.
-const COUNTED: &[Slots<'static>] = &[(0x0015, Rights::Clear, false, &COUNTS, &[])];
+const COUNTED: &str = "
+subs 1
+keeps 0015 clear slots 0 0 00 03 00 01 00 02
+";
 
 const CLEARED_TO_ZERO: &str = "
 get 0000 0015 = ack 00 03 00 01 00 02
@@ -90,25 +87,18 @@ get 0000 0015 = ack 00 00 00 00 00 00
 
 #[test]
 fn counts_are_cleared_to_zero(rt: HostRuntime) {
-    let mut own = OwnParameters::none();
-    add_slots(&rt, rt.alloc(), &mut own, COUNTED);
-    let mut devices = made(&rt, rt.alloc(), with_own(&rt, rt.alloc(), 1, own));
-    plays(&rt, &mut devices, CLEARED_TO_ZERO);
+    plays_on(&rt, rt.alloc(), &[COUNTED], CLEARED_TO_ZERO);
 }
 
 /// Neither a maker's parameter nor another one of the standards is cleared so, and COMMS_STATUS takes no data.
-const OTHERS: &[Slots<'static>] = &[
-    (0x8001, Rights::Clear, false, &[0; 6], &[]),
-    (0x0440, Rights::Clear, false, &[0], &[]),
-    (0x0015, Rights::Both, false, &[0; 6], &[]),
-    (0x0015, Rights::Clear, false, &[0; 5], &[]),
-    (0x1001, Rights::Both, false, &[0], &[]),
-];
+const OTHERS: &str = "<parameter> | <told>
+8001 clear slots 0 0 00 00 00 00 00 00 | bad profile
+0440 clear slots 0 0 00 | bad profile
+0015 both slots 0 0 00 00 00 00 00 00 | bad profile
+0015 clear slots 0 0 00 00 00 00 00 | bad profile
+1001 both slots 0 0 00 | bad profile";
 
 #[test]
 fn only_the_standards_clear(rt: HostRuntime) {
-    for row in OTHERS {
-        let told = refusal_with(&rt, rt.alloc(), 0, slots(&rt, row));
-        assert!(&rt; told == BAD, "{row:?}");
-    }
+    is_each_made(&rt, rt.alloc(), OTHERS, "keeps <parameter>");
 }

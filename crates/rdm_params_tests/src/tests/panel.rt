@@ -1,5 +1,6 @@
 //! Changes at the fixture's own menu.
 
+use super::fitting::plays_on;
 use super::*;
 
 /// Each change is told of exactly where it is taken, and a GET reads what its message says. A sub-device stays as it was.
@@ -23,7 +24,7 @@ get 0001 00F0 = ack 00 01
 
 #[test]
 fn changes_have_the_ranges_of_a_set(rt: HostRuntime) {
-    plays(&rt, &mut demo(&rt, rt.alloc(), 1), TURNED);
+    plays_on(&rt, rt.alloc(), &["subs 1"], TURNED);
 }
 
 /// The root's third personality uses no slots.
@@ -40,10 +41,7 @@ turn start 1 = taken 00F0 00 01
 
 #[test]
 fn without_slots_no_start_address_is_taken(rt: HostRuntime) {
-    let mut profile = Profile::demo(0);
-    let blank = profile.root.personalities.try_push(Personality::default());
-    assert!(rt; blank.is_ok());
-    plays(&rt, &mut made(&rt, rt.alloc(), profile), NO_SLOTS);
+    plays_on(&rt, rt.alloc(), &["root personality 0"], NO_SLOTS);
 }
 
 #[test]

@@ -17,10 +17,15 @@ use rdm_frame::digits::{bytes_in, word_in};
 /// - `own PID` asks what is kept of a parameter that the profile adds: `DATA`, or `none`.
 pub(super) fn plays(rt: &impl Abort, devices: &mut Devices, rows: &str) {
     for row in rows.lines() {
-        if !row.is_empty() && !row.starts_with("//") {
+        if says_something(row) {
             plays_row(rt, devices, row);
         }
     }
+}
+
+/// Whether a line is neither empty nor a comment.
+pub(super) fn says_something(line: &str) -> bool {
+    !line.is_empty() && !line.starts_with("//")
 }
 
 /// Plays rows for each row of a table, in which cells stand between bars: each for its name, which is in the table's first row.
@@ -38,7 +43,13 @@ pub(super) fn plays_each(
 }
 
 /// The rows with the cells in the places of their names.
-fn filled(rt: &impl Abort, alloc: Global, rows: &str, names: &str, cells: &str) -> String {
+pub(super) fn filled(
+    rt: &impl Abort,
+    alloc: Global,
+    rows: &str,
+    names: &str,
+    cells: &str,
+) -> String {
     let mut text = String::new(alloc);
     text.push_str(rows).expect(rt, "memory");
     for (name, cell) in names.split('|').zip(cells.split('|')) {
@@ -53,140 +64,126 @@ fn filled(rt: &impl Abort, alloc: Global, rows: &str, names: &str, cells: &str) 
 fn plays_row(rt: &impl Abort, devices: &mut Devices, row: &str) {
     let (said, expected) = row.split_once(" =").expect(rt, row);
     let (verb, words) = cut(said);
-    let expected = expected.trim_start();
+    let is_so = goes_so(rt, devices, verb, words, expected.trim_start());
+    assert!(rt; is_so, "{row}");
+}
+
+/// Whether all that comes of a row is what is expected.
+fn goes_so(
+    rt: &impl Abort,
+    devices: &mut Devices,
+    verb: &str,
+    words: &str,
+    expected: &str,
+) -> bool {
     match verb {
         "end" => ends(rt, devices, words, expected),
         "turn" => turns(rt, devices, words, expected),
         "notes" => notes(rt, devices, words, expected),
         "own" => keeps(rt, devices, words, expected),
-        _ => commands(rt, devices, verb, words, expected),
+        _ => obeys(rt, devices, verb, &said_in(rt, words), expected),
     }
 }
 
-/// What is done by a command or to a value: at which device, of which PID, and with which data.
+/// What a command or a value says: of which device, of which PID, and with which data.
 #[derive(Drop)]
 struct Said<'a> {
-    /// What the row says.
-    row: &'a str,
+    /// The words that say so.
+    words: &'a str,
     sub: u16,
     pid: u16,
     body: Body,
 }
 
-fn said_in<'a>(rt: &impl Abort, row: &'a str) -> Said<'a> {
-    let (sub, words) = cut(row);
-    let (pid, words) = cut(words);
+fn said_in<'a>(rt: &impl Abort, words: &'a str) -> Said<'a> {
+    let (sub, rest) = cut(words);
+    let (pid, bytes) = cut(rest);
     Said {
-        row,
+        words,
         sub: word(rt, sub),
         pid: word(rt, pid),
-        body: data(rt, words),
+        body: data(rt, bytes),
     }
 }
 
 /// A row of a command, or of a value that is placed.
-fn commands(rt: &impl Abort, devices: &mut Devices, verb: &str, words: &str, expected: &str) {
-    let said = said_in(rt, words);
+fn obeys(
+    rt: &impl Abort,
+    devices: &mut Devices,
+    verb: &str,
+    said: &Said<'_>,
+    expected: &str,
+) -> bool {
     match verb {
-        "get" => gets(rt, devices, &said, expected),
-        "set" => sets(rt, devices, &said, expected),
-        "tell" => tells(rt, devices, &said, expected),
-        "place" => places(rt, devices, &said, expected),
-        _ => panic!(rt; "{verb} {words}"),
+        "get" => gets(rt, devices, said, expected),
+        "set" => sets(rt, devices, said, expected),
+        "tell" => is_changed(rt, devices, said, expected),
+        _ => verb == "place" && places(devices, said, expected),
     }
 }
 
-fn gets(rt: &impl Abort, devices: &Devices, said: &Said<'_>, expected: &str) {
+fn gets(rt: &impl Abort, devices: &Devices, said: &Said<'_>, expected: &str) -> bool {
     let told = devices.get(said.sub, said.pid, said.body.as_slice());
-    assert!(rt;
-        told == verdict(rt, Get, said, expected),
-        "get {}: {told:?}",
-        said.row
-    );
+    is_told(rt, Get, said, &told, expected)
 }
 
-fn sets(rt: &impl Abort, devices: &mut Devices, said: &Said<'_>, expected: &str) {
+fn sets(rt: &impl Abort, devices: &mut Devices, said: &Said<'_>, expected: &str) -> bool {
     let told = devices.set(said.sub, said.pid, said.body.as_slice());
-    assert!(rt;
-        told == verdict(rt, Set, said, expected),
-        "set {}: {told:?}",
-        said.row
-    );
+    is_told(rt, Set, said, &told, expected)
 }
 
-fn tells(rt: &impl Abort, devices: &mut Devices, said: &Said<'_>, expected: &str) {
+fn places(devices: &mut Devices, said: &Said<'_>, expected: &str) -> bool {
+    let placed = devices.place(said.sub, said.pid, said.body.as_slice());
+    name_of(&placed) == expected
+}
+
+/// Whether a command is answered as words say.
+fn is_told(rt: &impl Abort, verb: Verb, said: &Said<'_>, told: &Verdict, expected: &str) -> bool {
+    let (kind, words) = cut(expected);
+    let is_so = match told {
+        Verdict::Reply(body) => kind == "ack" && body.as_slice() == data(rt, words).as_slice(),
+        Verdict::Refuse(nack) => kind == "nack" && reason_name(nack.code()) == Some(words),
+        Verdict::Queue(ask) => kind == "queue" && type_of(*ask) == words,
+        Verdict::Status(ask) => kind == "status" && type_of(*ask) == words,
+        Verdict::Start(work) => kind == "job" && starts(rt, verb, said, work, words),
+        Verdict::Clear => expected == "clears",
+    };
+    assert!(rt; is_so, "{}: {told:?}, not {expected}", said.words);
+    is_so
+}
+
+/// Whether a job is that of a command, and is handed this byte.
+fn starts(rt: &impl Abort, verb: Verb, said: &Said<'_>, work: &Work, arg: &str) -> bool {
+    *work == slow::work_of(verb, said.sub, said.pid, byte(rt, arg))
+}
+
+/// What is asked for, in the words of table A-4.
+fn type_of(ask: Ask) -> &'static str {
+    match ask {
+        Ask::None => "none",
+        Ask::Last => "last",
+        Ask::Advisory => "advisory",
+        Ask::Warning => "warning",
+        Ask::Error => "error",
+    }
+}
+
+/// Whether a SET changes what words say.
+fn is_changed(rt: &impl Abort, devices: &mut Devices, said: &Said<'_>, expected: &str) -> bool {
     let mut body = Body::new();
     let (_, changed) = devices.set_into(said.sub, said.pid, said.body.as_slice(), &mut body);
-    assert!(rt; changed == changed_in(rt, expected), "tell {}", said.row);
-}
-
-fn places(rt: &impl Abort, devices: &mut Devices, said: &Said<'_>, expected: &str) {
-    let placed = devices.place(said.sub, said.pid, said.body.as_slice());
-    assert!(rt; name_of(&placed) == expected, "place {}", said.row);
-}
-
-/// The verdict that words say.
-fn verdict(rt: &impl Abort, verb: Verb, said: &Said<'_>, expected: &str) -> Verdict {
-    let (sub, pid) = (said.sub, said.pid);
-    let (kind, words) = cut(expected);
-    match kind {
-        "ack" => Verdict::Reply(data(rt, words)),
-        "nack" => Verdict::Refuse(nack_in(words).expect(rt, expected)),
-        "queue" => Verdict::Queue(ask_in(words).expect(rt, expected)),
-        "status" => Verdict::Status(ask_in(words).expect(rt, expected)),
-        "job" => Verdict::Start(Work {
-            sub,
-            pid,
-            verb,
-            arg: byte(rt, words),
-        }),
-        _ => {
-            assert!(rt; expected == "clears");
-            Verdict::Clear
-        }
+    match changed {
+        None => expected == "nothing",
+        Some(Changed::Several) => expected == "several",
+        Some(Changed::Value { sub, pid }) => is_value(rt, sub, pid, expected),
     }
 }
 
-/// The reason of table A-17 that words say.
-fn nack_in(words: &str) -> Option<Nack> {
-    match words {
-        "unknown PID" => Some(UnknownPid),
-        "format error" => Some(FormatError),
-        "write protect" => Some(WriteProtect),
-        "unsupported command class" => Some(UnsupportedCommandClass),
-        "data out of range" => Some(DataOutOfRange),
-        "sub-device out of range" => Some(SubDeviceOutOfRange),
-        _ => None,
-    }
-}
-
-/// The status type of table A-4 that a word says.
-fn ask_in(word: &str) -> Option<Ask> {
-    match word {
-        "none" => Some(Ask::None),
-        "last" => Some(Ask::Last),
-        "advisory" => Some(Ask::Advisory),
-        "warning" => Some(Ask::Warning),
-        "error" => Some(Ask::Error),
-        _ => None,
-    }
-}
-
-/// What words say that changed.
-fn changed_in(rt: &impl Abort, words: &str) -> Option<Changed> {
-    let (kind, rest) = cut(words);
-    match kind {
-        "nothing" => None,
-        "several" => Some(Changed::Several),
-        _ => {
-            let said = said_in(rt, rest);
-            assert!(rt; kind == "value");
-            Some(Changed::Value {
-                sub: said.sub,
-                pid: said.pid,
-            })
-        }
-    }
+/// Whether words say that the value of this parameter of this device changed.
+fn is_value(rt: &impl Abort, sub: u16, pid: u16, words: &str) -> bool {
+    let (kind, words) = cut(words);
+    let (device, parameter) = cut(words);
+    kind == "value" && (word(rt, device), word(rt, parameter)) == (sub, pid)
 }
 
 /// What comes of placing a value.
@@ -200,36 +197,23 @@ fn name_of(placed: &Result<(), PlaceError>) -> &'static str {
     }
 }
 
-/// A job ends as words say, which it can, and its message says what it is expected to.
-fn ends(rt: &impl Abort, devices: &mut Devices, words: &str, expected: &str) {
+/// Whether a job that ends as words say has the message that it is expected to.
+fn ends(rt: &impl Abort, devices: &mut Devices, words: &str, expected: &str) -> bool {
     let (verb, rest) = cut(words);
     let (sub, rest) = cut(rest);
     let (pid, rest) = cut(rest);
     let (arg, outcome) = cut(rest);
-    let work = Work {
-        sub: word(rt, sub),
-        pid: word(rt, pid),
-        verb: if verb == "set" { Set } else { Get },
-        arg: byte(rt, arg),
-    };
-    ends_so(
-        rt,
-        devices,
-        &work,
-        outcome_in(outcome).expect(rt, words),
-        expected,
-    );
+    let verb = if verb == "set" { Set } else { Get };
+    let work = slow::work_of(verb, word(rt, sub), word(rt, pid), byte(rt, arg));
+    let outcome = outcome_in(outcome).expect(rt, words);
+    fits(&work, &outcome) && tells(rt, &devices.commit(&work, outcome), &work, expected)
 }
 
-/// A job ends so, as it can.
-fn ends_so(rt: &impl Abort, devices: &mut Devices, work: &Work, outcome: Outcome, expected: &str) {
-    let fitting = fits(work, &outcome);
-    assert!(rt; fitting, "{work:?}");
-    if fitting {
-        let (class, bytes) = cut(expected);
-        let wanted = message(byte(rt, class), work.pid, work.sub, data(rt, bytes));
-        assert!(rt; devices.commit(work, outcome) == wanted, "{work:?}");
-    }
+/// Whether a message is that of a work, and has the class and the data that words say.
+fn tells(rt: &impl Abort, told: &Message, work: &Work, expected: &str) -> bool {
+    let (class, words) = cut(expected);
+    (told.class, told.pid, told.sub) == (byte(rt, class), work.pid, work.sub)
+        && told.body.as_slice() == data(rt, words).as_slice()
 }
 
 /// The outcome that words say.
@@ -242,19 +226,17 @@ fn outcome_in(words: &str) -> Option<Outcome> {
     }
 }
 
-/// A change at the menu is told of exactly where it is taken, and a GET reads what its message says.
-fn turns(rt: &impl Abort, devices: &mut Devices, words: &str, expected: &str) {
+/// Whether a change at the menu is told of exactly where it is taken, and a GET reads what its message says.
+fn turns(rt: &impl Abort, devices: &mut Devices, words: &str, expected: &str) -> bool {
     let change = change_in(rt, words).expect(rt, words);
     let (taken, shown) = cut(expected);
     let (pid, bytes) = cut(shown);
-    let (pid, bytes) = (word(rt, pid), data(rt, bytes));
-    let reply = Verdict::Reply(bytes.copy());
-    let want = match taken {
-        "taken" => Some(message(0x21, pid, 0, bytes)),
-        _ => None,
+    let (pid, body) = (word(rt, pid), data(rt, bytes));
+    let is_so = match devices.change(&change) {
+        Some(told) => taken == "taken" && told == message(0x21, pid, 0, body.copy()),
+        None => taken == "refused",
     };
-    assert!(rt; devices.change(&change) == want, "{words}");
-    assert!(rt; devices.get(0, pid, &[]) == reply, "{words}");
+    is_so && devices.get(0, pid, &[]) == Verdict::Reply(body)
 }
 
 /// The change that words say.
@@ -267,36 +249,40 @@ fn change_in(rt: &impl Abort, words: &str) -> Option<Change> {
     }
 }
 
-/// Whether an entry is noted.
-fn notes(rt: &impl Abort, devices: &Devices, words: &str, expected: &str) {
-    let (sub, severity) = cut(words);
-    let severity = severity_in(severity).expect(rt, words);
+/// Whether an entry is noted exactly where words say so.
+fn notes(rt: &impl Abort, devices: &Devices, words: &str, expected: &str) -> bool {
+    let (sub, name) = cut(words);
+    let severity = named(SEVERITIES, name).expect(rt, words);
     let noted = devices.notes(&thresholds::entry(word(rt, sub), severity));
-    assert!(rt; (if noted { "yes" } else { "no" }) == expected, "{words}");
+    expected == if noted { "yes" } else { "no" }
 }
 
-/// The severity that words say.
-fn severity_in(words: &str) -> Option<Severity> {
-    match words {
-        "advisory" => Some(Severity::Advisory),
-        "advisory cleared" => Some(Severity::AdvisoryCleared),
-        "warning" => Some(Severity::Warning),
-        "warning cleared" => Some(Severity::WarningCleared),
-        "error" => Some(Severity::Error),
-        "error cleared" => Some(Severity::ErrorCleared),
-        _ => None,
+/// The severities of table A-4.
+const SEVERITIES: &[(&str, Severity)] = &[
+    ("advisory", Severity::Advisory),
+    ("advisory cleared", Severity::AdvisoryCleared),
+    ("warning", Severity::Warning),
+    ("warning cleared", Severity::WarningCleared),
+    ("error", Severity::Error),
+    ("error cleared", Severity::ErrorCleared),
+];
+
+/// Whether these data are kept of a parameter that the profile adds, if it has such data.
+fn keeps(rt: &impl Abort, devices: &Devices, pid: &str, expected: &str) -> bool {
+    match devices.own_value(word(rt, pid)) {
+        Some(kept) => kept == data(rt, expected).as_slice(),
+        None => expected == "none",
     }
 }
 
-/// These data are kept of a parameter that the profile adds, if it has such data.
-fn keeps(rt: &impl Abort, devices: &Devices, pid: &str, expected: &str) {
-    let bytes = data(rt, if expected == "none" { "" } else { expected });
-    let wanted = if expected == "none" {
-        None
-    } else {
-        Some(bytes.as_slice())
-    };
-    assert!(rt; devices.own_value(word(rt, pid)) == wanted, "{pid}");
+/// What has this name.
+pub(super) fn named<T: Copy>(rows: &[(&'static str, T)], name: &str) -> Option<T> {
+    for (own, thing) in rows {
+        if *own == name {
+            return Some(*thing);
+        }
+    }
+    None
 }
 
 /// The first word of a text, and what follows it.
@@ -310,7 +296,7 @@ pub(super) fn word(rt: &impl Abort, digits: &str) -> u16 {
 }
 
 /// The byte that two hexadecimal digits print.
-fn byte(rt: &impl Abort, digits: &str) -> u8 {
+pub(super) fn byte(rt: &impl Abort, digits: &str) -> u8 {
     u8::from_str_radix(digits, 16).ok().expect(rt, digits)
 }
 

@@ -1,5 +1,6 @@
 //! The rows of texts, lists, personalities and sensors.
 
+use super::fitting::plays_on;
 use super::*;
 
 pub(super) const RUNS: &[Run] = &[
@@ -166,9 +167,7 @@ set 0000 0202 FF = nack data out of range
 
 #[test]
 fn without_sensors_there_are_not_all(rt: HostRuntime) {
-    let mut profile = Profile::demo(0);
-    profile.sensors.clear();
-    plays(&rt, &mut made(&rt, rt.alloc(), profile), NO_SENSORS);
+    plays_on(&rt, rt.alloc(), &["no sensors"], NO_SENSORS);
 }
 
 /// What FACTORY_DEFAULTS sets back: each with another value, and with the first.

@@ -1,5 +1,6 @@
 //! The scalar rows of the table.
 
+use super::fitting::plays_on;
 use super::*;
 
 pub(super) const RUNS: &[Run] = &[(0, UNKNOWN)];
@@ -187,11 +188,8 @@ set 0000 00F0 00 01 = nack data out of range
 
 #[test]
 fn without_slots_there_is_no_start_address(rt: HostRuntime) {
-    let mut profile = Profile::demo(0);
-    profile.root.personalities.clear();
-    let blank = profile.root.personalities.try_push(Personality::default());
-    assert!(rt; blank.is_ok());
-    plays(&rt, &mut made(&rt, rt.alloc(), profile), NO_SLOTS);
+    let blank = &["root bare", "root personality 0"];
+    plays_on(&rt, rt.alloc(), blank, NO_SLOTS);
 }
 
 /// Without presets there are off and all.
@@ -204,7 +202,5 @@ set 0000 1031 00 01 07 = nack data out of range
 
 #[test]
 fn without_presets_there_are_off_and_all(rt: HostRuntime) {
-    let mut profile = Profile::demo(0);
-    profile.presets = 0;
-    plays(&rt, &mut made(&rt, rt.alloc(), profile), NO_PRESETS);
+    plays_on(&rt, rt.alloc(), &["presets 0"], NO_PRESETS);
 }

@@ -1,18 +1,13 @@
 //! PRESET_STATUS: scenes that are programmed, cleared, or can only be read.
 
+use super::fitting::{is_each_made, plays_on};
 use super::*;
 
-/// Scenes up to this number, of which those up to the least can only be read.
-fn scenes(low: i64, high: i64) -> ParameterDef {
-    parameter(0x1042, Rights::Both, Shape::Scenes, (low, high), &[])
-}
-
 /// A demonstration device with four scenes, of which the first can only be read.
-fn rack(rt: &impl Abort, alloc: Global) -> Devices {
-    let mut own = OwnParameters::none();
-    add(rt, alloc, &mut own, scenes(1, 4));
-    made(rt, alloc, with_own(rt, alloc, 1, own))
-}
+const RACK: &str = "
+subs 1
+keeps 1042 both scenes 1 4
+";
 
 const STEPS: &str = "
 get 0000 1042 00 01 = ack 00 01 00 00 00 00 00 00 02
@@ -40,7 +35,7 @@ set 0001 1042 00 02 00 0A 00 14 00 1E 00 = nack unknown PID
 
 #[test]
 fn scenes_are_programmed_and_cleared(rt: HostRuntime) {
-    plays(&rt, &mut rack(&rt, rt.alloc()), STEPS);
+    plays_on(&rt, rt.alloc(), &[RACK], STEPS);
 }
 
 /// The four scenes, one of which is cleared again; and what has another length, names no scene, or says neither 00 nor 01.
@@ -56,10 +51,7 @@ place 0000 1042 00 04 00 00 00 00 00 00 00 00 = length
 place 0000 1042 00 00 00 00 00 00 00 00 00 = out of range
 place 0000 1042 00 05 00 00 00 00 00 00 00 = out of range
 place 0000 1042 00 04 00 00 00 00 00 00 02 = out of range
-";
-
-/// The scene that can only be read stays so, for a SET too.
-const SHOWN: &str = "
+// The scene that can only be read stays so, for a SET too.
 get 0000 1042 00 01 = ack 00 01 00 0A 00 14 00 1E 02
 get 0000 1042 00 02 = ack 00 02 FF FF 00 05 00 00 01
 get 0000 1042 00 03 = ack 00 03 00 00 00 00 00 00 00
@@ -70,17 +62,12 @@ get 0000 1042 00 01 = ack 00 01 00 0A 00 14 00 1E 02
 
 #[test]
 fn firmware_places_scenes(rt: HostRuntime) {
-    let mut devices = rack(&rt, rt.alloc());
-    plays(&rt, &mut devices, PLACED);
-    plays(&rt, &mut devices, SHOWN);
+    plays_on(&rt, rt.alloc(), &[RACK], PLACED);
 }
 
 /// The scene that can only be read is cleared.
 const CLEARED: &str = "
 place 0000 1042 00 01 00 0A 00 14 00 1E 01 = ok
-";
-
-const GONE: &str = "
 get 0000 1042 00 01 = ack 00 01 00 00 00 00 00 00 00
 set 0000 1042 00 01 00 0A 00 14 00 1E 00 = nack write protect
 ";
@@ -88,15 +75,16 @@ set 0000 1042 00 01 00 0A 00 14 00 1E 00 = nack write protect
 /// Firmware that clears a scene which can only be read says that there is none, and no SET makes one.
 #[test]
 fn firmware_clears_a_scene_that_can_only_be_read(rt: HostRuntime) {
-    let mut devices = rack(&rt, rt.alloc());
-    plays(&rt, &mut devices, CLEARED);
-    plays(&rt, &mut devices, GONE);
+    plays_on(&rt, rt.alloc(), &[RACK], CLEARED);
 }
+
+const LIMITS: &str = "<low> | <high> | <told>
+2 | 1 | bad profile
+0 | 256 | bad profile
+-1 | 1 | bad profile";
 
 #[test]
 fn limits_of_scenes_are_numbers_of_scenes(rt: HostRuntime) {
-    for (low, high) in [(2, 1), (0, 256), (-1, 1)] {
-        let told = refusal_with(&rt, rt.alloc(), 0, scenes(low, high));
-        assert!(&rt; told == BAD, "{low} {high}");
-    }
+    let scenes = "keeps 1042 both scenes <low> <high>";
+    is_each_made(&rt, rt.alloc(), LIMITS, scenes);
 }

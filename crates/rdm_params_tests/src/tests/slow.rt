@@ -42,7 +42,7 @@ fn a_slow_set_changes_its_device_when_it_is_done(rt: HostRuntime) {
 }
 
 /// A work of a command.
-fn work_of(verb: Verb, sub: u16, pid: u16, arg: u8) -> Work {
+pub(super) fn work_of(verb: Verb, sub: u16, pid: u16, arg: u8) -> Work {
     Work {
         sub,
         pid,
@@ -131,14 +131,20 @@ const TIMES: &[(Verb, u16, u8, u16)] = &[
 
 #[test]
 fn a_job_takes_as_long_as_the_profile_says(rt: HostRuntime) {
-    let mut particular = Particular::usual();
-    particular.estimates = OTHER;
-    let profile = set_apart(&rt, rt.alloc(), 0, particular);
-    let mut devices = made(&rt, rt.alloc(), profile);
+    let mut devices = made(&rt, rt.alloc(), as_slow(&rt, rt.alloc()));
     for (verb, pid, arg, expected) in TIMES {
         let (_, estimate) = started(&rt, &mut devices, *verb, *pid, *arg);
         assert!(rt; estimate == *expected, "{pid:04X}");
     }
+}
+
+/// A demonstration device with these estimates.
+fn as_slow(rt: &impl Abort, alloc: Global) -> Profile {
+    let mut profile = Profile::demo(0);
+    let mut particular = Particular::usual();
+    particular.estimates = OTHER;
+    profile.particulars = Particulars::of(alloc, particular).expect(rt, "memory");
+    profile
 }
 
 /// The worker and the estimate of the job that a command starts.

@@ -1,51 +1,21 @@
 //! A fixture with parameters of E1.20 and of E1.37-1 that the table lacks, and fields in the slots of parameters.
 
+use super::fitting::{is_each_made, is_made, plays_on};
 use super::*;
-use Rights::Both;
-use Width::{One, Two};
 
-/// DMX_FAIL_MODE: one of four scenes, delays of 1 to 25.5 seconds, hold times, both also without end, and a level.
-const FAIL_MODE: &[Number] = &[
-    (Two, 0, 4, 0),
-    (Two, 10, 255, 0xFFFF),
-    (Two, 0, 0xFF00, 0xFFFF),
-    (One, 0, 255, 0),
-];
-
-/// MINIMUM_LEVEL, from 0 to 7FFF.
-const MINIMUM_LEVEL: &[Number] = &[(Two, 0, 0x7FFF, 0), (Two, 0, 0x7FFF, 0), (One, 0, 1, 0)];
-
-/// REAL_TIME_CLOCK.
-const CLOCK: &[Number] = &[
-    (Two, 2003, 65535, 2003),
-    (One, 1, 12, 1),
-    (One, 1, 31, 1),
-    (One, 0, 23, 0),
-    (One, 0, 59, 0),
-    (One, 0, 60, 0),
-];
-
-/// IDENTIFY_MODE: quiet, which is 00, or loud, which is FF.
-const IDENTIFY_MODE: &[Number] = &[(One, 0, 0, 0xFF)];
-
-const DIMMER: [u8; 11] = [0x00, 0x00, 0x7F, 0xFF, 0x7F, 0xFF, 0xFF, 0xFF, 3, 14, 1];
-
-/// What a dimmer has of the standards.
-const OWN: &[Slots<'static>] = &[
-    (0x0070, Rights::Get, false, &[4, 3, 4, 0], &[]),
-    (0x0141, Both, true, &[0, 0, 0, 10, 0, 0, 0], FAIL_MODE),
-    (0x0340, Rights::Get, false, &DIMMER, &[]),
-    (0x0341, Both, false, &[0, 10, 0, 20, 1], MINIMUM_LEVEL),
-    (0x0603, Both, false, &[7, 0xEA, 1, 1, 0, 0, 0], CLOCK),
-    (0x1040, Both, false, &[0], IDENTIFY_MODE),
-];
-
-/// A demonstration device with these.
-fn dimmer(rt: &impl Abort, alloc: Global) -> Devices {
-    let mut own = OwnParameters::none();
-    add_slots(rt, alloc, &mut own, OWN);
-    made(rt, alloc, with_own(rt, alloc, 1, own))
-}
+/// A demonstration device with what a dimmer has of the standards.
+///
+/// The fields of DMX_FAIL_MODE are one of four scenes, delays of 1 to 25.5 seconds, hold times, both also without end, and a level; those of
+/// MINIMUM_LEVEL are levels from 0 to 7FFF; and REAL_TIME_CLOCK begins in 2003. IDENTIFY_MODE is quiet, which is 00, or loud, which is FF.
+const DIMMER: &str = "
+subs 1
+keeps 0070 get slots 0 0 04 03 04 00
+resets 0141 both slots 0 0 00 00 00 0A 00 00 00 + two 0 4 0 + two 10 255 65535 + two 0 65280 65535 + one 0 255 0
+keeps 0340 get slots 0 0 00 00 7F FF 7F FF FF FF 03 0E 01
+keeps 0341 both slots 0 0 00 0A 00 14 01 + two 0 32767 0 + two 0 32767 0 + one 0 1 0
+keeps 0603 both slots 0 0 07 EA 01 01 00 00 00 + two 2003 65535 2003 + one 1 12 1 + one 1 31 1 + one 0 23 0 + one 0 59 0 + one 0 60 0
+keeps 1040 both slots 0 0 00 + one 0 0 255
+";
 
 const STEPS: &str = "
 get 0000 0070 = ack 04 03 04 00
@@ -87,46 +57,39 @@ get 0000 0342 = nack unknown PID
 
 #[test]
 fn slots_say_numbers_in_their_ranges(rt: HostRuntime) {
-    plays(&rt, &mut dimmer(&rt, rt.alloc()), STEPS);
+    plays_on(&rt, rt.alloc(), &[DIMMER], STEPS);
 }
 
-/// Parameters, and why no profile can have them, if none can.
-const MADE: &[(Slots<'static>, Option<NewError>)] = &[
-    // One slot too few, and one too many.
-    ((0x8001, Both, false, &[0, 0, 0], &[(Two, 0, 1, 0)]), BAD),
-    ((0x8001, Both, false, &[0], &[(Two, 0, 1, 0)]), BAD),
-    // What one slot can't say, and limits that are upside down.
-    ((0x8001, Both, false, &[0], &[(One, 0, 256, 0)]), BAD),
-    ((0x8001, Both, false, &[0], &[(One, 0, 1, 256)]), BAD),
-    ((0x8001, Both, false, &[2], &[(One, 2, 1, 2)]), BAD),
-    // It starts out of range.
-    ((0x8001, Both, false, &[2], &[(One, 0, 1, 0)]), BAD),
-    // DIMMER_INFO has no SET, and 11 slots.
-    ((0x0340, Both, false, &DIMMER, &[]), BAD),
-    ((0x0340, Rights::Get, false, &[0; 12], &[]), BAD),
-    // A list of one to six numbers of two slots.
-    ((0x0070, Rights::Get, false, &[4], &[]), BAD),
-    ((0x0070, Rights::Get, false, &[0; 14], &[]), BAD),
-    // The first number of MINIMUM_LEVEL has two slots.
-    ((0x0341, Both, false, &[0; 5], TURNED), BAD),
-    // Without fields its slots are whatever the maker tells.
-    ((0x0341, Both, false, &[0; 5], &[]), None),
-];
-
-const TURNED: &[Number] = &[(One, 0, 1, 0), (Two, 0, 1, 0), (Two, 0, 1, 0)];
+/// Parameters, and whether a profile can have them.
+const MADE: &str = "<parameter> | <told>
+// One slot too few, and one too many.
+8001 both slots 0 0 00 00 00 + two 0 1 0 | bad profile
+8001 both slots 0 0 00 + two 0 1 0 | bad profile
+// What one slot can't say, and limits that are upside down.
+8001 both slots 0 0 00 + one 0 256 0 | bad profile
+8001 both slots 0 0 00 + one 0 1 256 | bad profile
+8001 both slots 0 0 02 + one 2 1 2 | bad profile
+// It starts out of range.
+8001 both slots 0 0 02 + one 0 1 0 | bad profile
+// DIMMER_INFO has no SET, and 11 slots.
+0340 both slots 0 0 00 00 7F FF 7F FF FF FF 03 0E 01 | bad profile
+0340 get slots 0 0 00 00 00 00 00 00 00 00 00 00 00 00 | bad profile
+// A list of one to six numbers of two slots.
+0070 get slots 0 0 04 | bad profile
+0070 get slots 0 0 00 00 00 00 00 00 00 00 00 00 00 00 00 00 | bad profile
+// The first number of MINIMUM_LEVEL has two slots.
+0341 both slots 0 0 00 00 00 00 00 + one 0 1 0 + two 0 1 0 + two 0 1 0 | bad profile
+// Without fields its slots are whatever the maker tells.
+0341 both slots 0 0 00 00 00 00 00 | made";
 
 #[test]
 fn parameters_of_the_standards_are_as_these_say(rt: HostRuntime) {
-    for (row, expected) in MADE {
-        let told = refusal_with(&rt, rt.alloc(), 0, slots(&rt, row));
-        assert!(&rt; told == *expected, "{row:?}");
-    }
+    is_each_made(&rt, rt.alloc(), MADE, "keeps <parameter>");
 }
 
 /// A number is no slots.
 #[test]
 fn a_number_has_no_fields(rt: HostRuntime) {
-    let mut def = parameter(0x8001, Rights::Get, Shape::Byte, (0, 0), &[0]);
-    add_fields(&rt, &mut def, &[(One, 0, 1, 0)]);
-    assert!(&rt; refusal_with(&rt, rt.alloc(), 0, def) == BAD);
+    let number = "keeps 8001 get byte 0 0 00 + one 0 1 0";
+    is_made(&rt, rt.alloc(), number, "bad profile");
 }

@@ -1,11 +1,12 @@
-//! What the firmware of a fixture does beside answering: it places values, and it tells of what is wrong.
+//! What the firmware of a fixture does beside answering: it places values, tells of what is wrong, and drops what nobody fetches.
 
-ghost use Rattle.std.specs.Prelude.{◌≡◌, ◌↔◌, IsOk, OnOk, OnErr, length, nat_lt};
+ghost use Rattle.std.specs.Prelude.{◌≡◌, ◌↔◌, IsOk, OnOk, OnErr, length, nat_lt, slice_get, None};
 ghost use Rattle.std.specs.Result.{result_err};
 ghost use Rattle.rdm_outbox.specs.Account.{Account as OutboxAccount};
+ghost use Rattle.rdm_outbox.specs.Jobs.{waiting_of};
 ghost use Rattle.rdm_outbox.specs.Shows.{Shows as OutboxShows};
 ghost use Rattle.rdm_params.specs.Commands.Placing.{place_refusal};
-ghost use Rattle.rdm_responder.specs.History.{History, Placed, Noted, then_event};
+ghost use Rattle.rdm_responder.specs.History.{History, Placed, Noted, Dropped, then_event};
 ghost use Rattle.rdm_responder.specs.Lawful.{IsLawful};
 ghost use Rattle.rdm_responder.specs.Rules.{account_of, after_entry};
 ghost use Rattle.rdm_responder.specs.Runs.{outbox_of};
@@ -13,7 +14,7 @@ ghost use Rattle.rdm_responder.specs.StandsFor.{StandsFor};
 
 use crate::Responder;
 use rdm_outbox::Outbox;
-use rdm_params::{Devices, Entry, PlaceError};
+use rdm_params::{Devices, Entry, Message, PlaceError};
 
 impl Responder {
     /// Makes a stored value at the root, or at one sub-device, what a SET of it would make it, as firmware does that
@@ -47,6 +48,18 @@ impl Responder {
         ensures stands { (h : History) → StandsFor self.old h → StandsFor self.new (then_event h (Noted entry)) }
     {
         note_entry(&self.devices, &mut self.outbox, entry)
+    }
+
+    /// Drops the oldest message that waits, and returns it, for firmware whose queue is full since no controller fetches
+    /// (E1.20 section 10.3.1): it makes room for one more job or change. No controller gets the message. The last message stays.
+    ///
+    /// It is `None`, and nothing changes, if no message waits.
+    pub fn drop_oldest(&mut self) -> Option<Message>
+        ensures dropped { (h : History) → StandsFor self.old h → result ≡ slice_get (waiting_of (outbox_of h)) 0 }
+        ensures stands { (h : History) → StandsFor self.old h → StandsFor self.new (then_event h Dropped) }
+        ensures same { result ≡ None → self.new ≡ self.old }
+    {
+        self.outbox.drop_oldest()
     }
 }
 

@@ -72,10 +72,10 @@ fn entries_are_1_to_1024(rt: HostRuntime) {
         };
         let profile = Box::new(rt.alloc(), Profile::demo(0)).expect(&rt, "memory");
         let made = Responder::with_settings(rt.alloc(), &settings, profile);
-        assert!(rt; made.err() == *refusal, "{uid:?} {queue_size} {entries}");
         // Without a profile the same is said of the settings.
+        let told = (made.err(), settings.refusal());
         assert!(rt;
-            settings.refusal() == *refusal,
+            told == (*refusal, *refusal),
             "{uid:?} {queue_size} {entries}"
         );
     }

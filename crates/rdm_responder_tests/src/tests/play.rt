@@ -1,11 +1,11 @@
 //! Plays runs that are written as text.
 
-use super::{printed, responder_with};
+use super::{byte, cut, printed, responder_with, word};
 use rdm_frame::Wire;
 use rdm_outbox::Job;
 use rdm_params::{Change, Entry, Outcome, PlaceError, Plate, Severity};
 use rdm_responder::{Report, Responder, Started, Stepped};
-use std::alloc::{AllocError, Global};
+use std::alloc::Global;
 use std::process::Abort;
 
 /// What happens to a new responder: how many sub-devices it has, for how many results there is room, and lines.
@@ -26,16 +26,17 @@ pub(super) type Run<'a> = (u16, u16, &'a str);
 /// Plays a run: what comes of each line is what the next lines say, and nothing else.
 pub(super) fn plays(rt: &impl Abort, alloc: Global, (subs, queue_size, lines): Run<'_>) {
     let mut play = Play::new(rt, alloc, subs, queue_size);
-    let goes_on = play.goes_as(rt, alloc, lines);
-    assert!(rt; goes_on.is_ok(), "out of memory");
+    for line in lines.lines() {
+        play.goes_on(rt, alloc, line);
+    }
     ends_as(rt, alloc, &play.told, lines);
 }
 
 /// The lines that came are those of the run.
 fn ends_as(rt: &impl Abort, alloc: Global, told: &str, lines: &str) {
-    let told = without_blanks(alloc, told).expect(rt, "memory");
-    let expected = without_blanks(alloc, lines).expect(rt, "memory");
-    assert!(rt; told.as_str() == expected.as_str(), "{told}, not {lines}");
+    let bare = told.replace(alloc, " ", "").expect(rt, "memory");
+    let expected = lines.replace(alloc, " ", "").expect(rt, "memory");
+    assert!(rt; bare.as_str() == expected.as_str(), "{told}, not {lines}");
 }
 
 /// A run that is being played.
@@ -61,196 +62,150 @@ impl Play {
         }
     }
 
-    /// Does what each line says, and tells what comes of it.
-    fn goes_as(&mut self, rt: &impl Abort, alloc: Global, lines: &str) -> Result<(), AllocError> {
-        for line in lines.lines() {
-            self.goes_on(rt, alloc, line)?;
-        }
-        Ok(())
-    }
-
-    /// Does what a line says, where it says what is done.
-    fn goes_on(&mut self, rt: &impl Abort, alloc: Global, line: &str) -> Result<(), AllocError> {
-        let (verb, words) = line.split_once(' ').unwrap_or((line, ""));
+    /// Does what a line says, where it says what is done, and tells what comes of it.
+    fn goes_on(&mut self, rt: &impl Abort, alloc: Global, line: &str) {
+        let (verb, words) = cut(line);
         match verb {
-            "send" | "arrive" | "change" | "place" | "note" | "count" => {
-                self.tells(line)?;
-                self.does(rt, alloc, verb, words)
-            }
-            _ => Ok(()),
-        }
-    }
-
-    /// Does what words say.
-    fn does(
-        &mut self,
-        rt: &impl Abort,
-        alloc: Global,
-        verb: &str,
-        words: &str,
-    ) -> Result<(), AllocError> {
-        match verb {
-            "send" => self.hears(rt, alloc, &printed(rt, words)),
-            "arrive" => self.takes(rt, words),
-            "change" => self.changes(rt, words),
-            "place" => self.places(rt, words),
-            "note" => self.notes(rt, words),
-            _ => self.counts(alloc),
+            "send" => self.hears(rt, alloc, line, words),
+            "arrive" => self.takes(rt, line, words),
+            "change" => self.changes(rt, line, words),
+            "place" => self.places(rt, line, words),
+            "note" => self.notes(rt, line, words),
+            "count" => self.counts(rt, alloc, line),
+            _ => (),
         }
     }
 
     /// Puts a line at the end.
-    fn tells(&mut self, line: &str) -> Result<(), AllocError> {
-        self.told.push_str(line)?;
-        self.told.push_str("\n")
+    fn tells(&mut self, rt: &impl Abort, line: &str) {
+        self.told.push_str(line).expect(rt, "memory");
+        self.told.push_str("\n").expect(rt, "memory");
     }
 
     /// Hears a frame. Both responders answer the same.
-    fn hears(&mut self, rt: &impl Abort, alloc: Global, heard: &Wire) -> Result<(), AllocError> {
-        let (reply, job) = self.responder.step(heard.as_slice());
+    fn hears(&mut self, rt: &impl Abort, alloc: Global, line: &str, words: &str) {
+        self.tells(rt, line);
+        let heard = printed(rt, words);
         let mut wire = Wire::new();
+        let (reply, job) = self.responder.step(heard.as_slice());
         let stepped = self.other.step_into(heard.as_slice(), &mut wire);
-        assert!(rt;
-            (stepped.replied, stepped.job()) == (reply.is_some(), job),
-            "{heard:?}"
-        );
-        if let Some(bytes) = &reply {
-            assert!(rt; wire.as_slice() == bytes.as_slice(), "{heard:?}");
-        }
-        self.tells_answer(rt, alloc, stepped, &wire)
+        let is_same = match &reply {
+            Some(bytes) => stepped.replied && wire.as_slice() == bytes.as_slice(),
+            None => !stepped.replied,
+        };
+        assert!(rt; is_same && stepped.job() == job, "{line}");
+        self.tells_answer(rt, alloc, &stepped, wire.as_slice());
     }
 
     /// Tells of what was heard: the reply, if there is one, and the job that started, if one did.
-    fn tells_answer(
-        &mut self,
-        rt: &impl Abort,
-        alloc: Global,
-        stepped: Stepped,
-        wire: &Wire,
-    ) -> Result<(), AllocError> {
+    fn tells_answer(&mut self, rt: &impl Abort, alloc: Global, stepped: &Stepped, wire: &[u8]) {
         if stepped.replied {
-            self.tells_reply(alloc, wire)?;
+            self.tells_reply(rt, alloc, wire);
         } else {
-            self.tells("reply none")?;
+            self.tells(rt, "reply none");
         }
-        match stepped.started {
-            Some(started) => self.starts(rt, alloc, started, wire),
-            None => Ok(()),
+        if let Some(started) = stepped.started {
+            self.starts(rt, alloc, started, wire);
         }
     }
 
     /// A job started. Where there is a reply it is ACK_TIMER, and the estimate is the one that it carries.
-    fn starts(
-        &mut self,
-        rt: &impl Abort,
-        alloc: Global,
-        started: Started,
-        wire: &Wire,
-    ) -> Result<(), AllocError> {
-        if let Some(carried) = wire.as_slice().get(24..26) {
-            assert!(rt; carried == started.estimate.to_be_bytes().as_slice());
+    fn starts(&mut self, rt: &impl Abort, alloc: Global, started: Started, wire: &[u8]) {
+        let line = format!(in alloc; "job {} {}", started.worker, started.job.number);
+        let line = line.expect(rt, "memory");
+        if let Some(carried) = wire.get(24..26) {
+            assert!(rt;
+                carried == started.estimate.to_be_bytes().as_slice(),
+                "{line}"
+            );
         }
-        let line = format!(in alloc; "job {} {}", started.worker, started.job.number)?;
-        self.tells(&line)?;
-        self.jobs.push(started.job)?;
-        Ok(())
+        self.tells(rt, &line);
+        self.jobs.push(started.job).expect(rt, "memory");
     }
 
     /// Prints the bytes of a reply.
-    fn tells_reply(&mut self, alloc: Global, bytes: &Wire) -> Result<(), AllocError> {
-        self.told.push_str("reply ")?;
-        for byte in bytes.as_slice() {
-            let digits = format!(in alloc; "{byte:02X}")?;
-            self.told.push_str(&digits)?;
+    fn tells_reply(&mut self, rt: &impl Abort, alloc: Global, bytes: &[u8]) {
+        self.told.push_str("reply ").expect(rt, "memory");
+        for byte in bytes {
+            let digits = format!(in alloc; "{byte:02X}").expect(rt, "memory");
+            self.told.push_str(&digits).expect(rt, "memory");
         }
-        self.told.push_str("\n")
+        self.told.push_str("\n").expect(rt, "memory");
     }
 
     /// Takes a report. One that is astray comes back as it is, and nothing waits or ends by it.
-    fn takes(&mut self, rt: &impl Abort, report: &str) -> Result<(), AllocError> {
-        let report = self.report_in(report).expect(rt, "a report");
+    fn takes(&mut self, rt: &impl Abort, line: &str, words: &str) {
+        let report = self.report_in(rt, words);
         let counts = (self.responder.waiting(), self.responder.outstanding());
-        let is_other_astray = self.other.arrive(report).is_err();
-        let (is_astray, told) = match self.responder.arrive(report) {
-            Ok(arrival) => (false, if arrival.kept { "kept" } else { "" }),
-            Err(astray) => {
-                assert!(rt; astray.report == report);
-                assert!(rt; (self.responder.waiting(), self.responder.outstanding()) == counts);
-                (true, "astray")
-            }
+        let is_taken = self.other.arrive(report).is_ok();
+        let (is_same, told) = match self.responder.arrive(report) {
+            Ok(arrival) => (is_taken, if arrival.kept { "kept" } else { "" }),
+            Err(astray) => (!is_taken && astray.report == report, "astray"),
         };
-        assert!(rt; is_other_astray == is_astray, "{report:?}");
-        self.tells_of(told)
+        let after = (self.responder.waiting(), self.responder.outstanding());
+        assert!(rt; is_same && (is_taken || after == counts), "{line}");
+        self.tells_of(rt, line, told);
     }
 
-    /// Puts a line at the end, if there is something to tell.
-    fn tells_of(&mut self, told: &str) -> Result<(), AllocError> {
+    /// Puts a line at the end, and behind it what there is to tell, if there is something.
+    fn tells_of(&mut self, rt: &impl Abort, line: &str, told: &str) {
+        self.tells(rt, line);
         if !told.is_empty() {
-            self.tells(told)?;
+            self.tells(rt, told);
         }
-        Ok(())
     }
 
     /// Takes a change. One for which there is no room comes back as it is.
-    fn changes(&mut self, rt: &impl Abort, text: &str) -> Result<(), AllocError> {
-        let change = change_in(rt, text).expect(rt, "a change");
+    fn changes(&mut self, rt: &impl Abort, line: &str, words: &str) {
+        let change = change_in(rt, words);
         let has_room = self.responder.room();
-        assert!(rt; self.other.change(change).is_ok() == has_room, "{change:?}");
-        let (is_taken, told) = match self.responder.change(change) {
-            Ok(message) => (true, if message.is_some() { "queued" } else { "" }),
-            Err(refused) => {
-                assert!(rt; refused.change == change);
-                (false, "no room")
-            }
+        let (is_so, told) = match self.responder.change(change) {
+            Ok(message) => (has_room, if message.is_some() { "queued" } else { "" }),
+            Err(refused) => (!has_room && refused.change == change, "no room"),
         };
-        assert!(rt; is_taken == has_room, "{change:?}");
-        self.tells_of(told)
+        let is_same = self.other.change(change).is_ok() == has_room;
+        assert!(rt; is_so && is_same, "{line}");
+        self.tells_of(rt, line, told);
     }
 
     /// Places a value, as both responders do.
-    fn places(&mut self, rt: &impl Abort, text: &str) -> Result<(), AllocError> {
-        let (sub, pid, data) = value_in(text).expect(rt, "a value");
-        let data = printed(rt, data);
+    fn places(&mut self, rt: &impl Abort, line: &str, words: &str) {
+        let (sub, words) = cut(words);
+        let (pid, words) = cut(words);
+        let (sub, pid, data) = (word(rt, sub), word(rt, pid), printed(rt, words));
         let placed = self.responder.place(sub, pid, data.as_slice());
-        assert!(rt;
-            self.other.place(sub, pid, data.as_slice()) == placed,
-            "{text}"
-        );
-        self.tells_of(refusal_of(&placed))
+        let is_same = self.other.place(sub, pid, data.as_slice()) == placed;
+        assert!(rt; is_same, "{line}");
+        self.tells_of(rt, line, refusal_of(&placed));
     }
 
     /// Notes a status entry, as both responders do.
-    fn notes(&mut self, rt: &impl Abort, text: &str) -> Result<(), AllocError> {
-        let entry = entry_in(text).expect(rt, "an entry");
+    fn notes(&mut self, rt: &impl Abort, line: &str, words: &str) {
+        let entry = entry_in(rt, words);
         let noted = self.responder.note(entry);
-        assert!(rt; self.other.note(entry) == noted, "{text}");
-        self.tells_of(if noted { "noted" } else { "" })
+        let is_same = self.other.note(entry) == noted;
+        assert!(rt; is_same, "{line}");
+        self.tells_of(rt, line, if noted { "noted" } else { "" });
     }
 
     /// Tells how many messages wait, and how many jobs are outstanding.
-    fn counts(&mut self, alloc: Global) -> Result<(), AllocError> {
+    fn counts(&mut self, rt: &impl Abort, alloc: Global, line: &str) {
         let (waiting, outstanding) = (self.responder.waiting(), self.responder.outstanding());
-        let line = format!(in alloc; "{waiting} waiting, {outstanding} outstanding")?;
-        self.tells(&line)
+        let told = format!(in alloc; "{waiting} waiting, {outstanding} outstanding");
+        self.tells_of(rt, line, &told.expect(rt, "memory"));
     }
 
     /// The report that words say: which job, a number and an outcome.
-    fn report_in(&self, text: &str) -> Option<Report> {
-        let (at, said) = text.split_once(' ')?;
-        let (number, outcome) = said.split_once(' ')?;
-        let started = self.jobs.get(decimal(at)? as usize)?;
-        let number = decimal(number)?;
-        let outcome = outcome_in(outcome)?;
-        let job = Job { number, ..*started };
-        Some(Report { job, outcome })
+    fn report_in(&self, rt: &impl Abort, words: &str) -> Report {
+        let (at, words) = cut(words);
+        let (number, outcome) = cut(words);
+        let started = self.jobs.get(decimal(rt, at) as usize).expect(rt, at);
+        let number = decimal(rt, number);
+        Report {
+            job: Job { number, ..*started },
+            outcome: outcome_in(rt, outcome),
+        }
     }
-}
-
-/// The value that words say: the sub-device, the PID and the digits of the data.
-fn value_in(text: &str) -> Option<(u16, u16, &str)> {
-    let (sub, rest) = text.split_once(' ')?;
-    let (pid, data) = rest.split_once(' ').unwrap_or((rest, ""));
-    Some((word_in(sub)?, word_in(pid)?, data))
 }
 
 /// Why a value isn't placed.
@@ -265,76 +220,62 @@ fn refusal_of(placed: &Result<(), PlaceError>) -> &'static str {
 }
 
 /// The entry that words say, of the sub-device and the severity: a fan that stands still, with two values.
-fn entry_in(text: &str) -> Option<Entry> {
-    let (sub, severity) = text.split_once(' ')?;
-    Some(Entry {
-        sub: word_in(sub)?,
-        severity: severity_in(severity)?,
+fn entry_in(rt: &impl Abort, words: &str) -> Entry {
+    let (sub, severity) = cut(words);
+    Entry {
+        sub: word(rt, sub),
+        severity: severity_in(rt, severity),
         id: 0x8001,
         v1: 5,
         v2: 6,
-    })
+    }
 }
 
 /// The change that words say: a number in decimal digits, or a label in hexadecimal ones.
-fn change_in(rt: &impl Abort, text: &str) -> Option<Change> {
-    match text.split_once(' ')? {
-        ("start", value) => Some(Change::Start(value.parse::<u16>().ok()?)),
-        ("personality", value) => Some(Change::Personality(value.parse::<u8>().ok()?)),
-        ("label", value) => {
-            let plate = Plate::new(printed(rt, value).as_slice());
-            Some(Change::Label(plate?))
+fn change_in(rt: &impl Abort, words: &str) -> Change {
+    let (kind, value) = cut(words);
+    match kind {
+        "start" => Change::Start(value.parse::<u16>().ok().expect(rt, words)),
+        "personality" => Change::Personality(value.parse::<u8>().ok().expect(rt, words)),
+        _ => {
+            assert!(rt; kind == "label", "{words}");
+            Change::Label(Plate::new(printed(rt, value).as_slice()).expect(rt, words))
         }
-        _ => None,
     }
 }
 
 /// The outcome that words say.
-fn outcome_in(text: &str) -> Option<Outcome> {
-    match text.split_once(' ') {
-        None if text == "done" => Some(Outcome::Done),
-        Some(("reading", value)) => Some(Outcome::Reading(value.parse::<i16>().ok()?)),
-        Some(("failed", status)) => failed_in(status),
-        _ => None,
+fn outcome_in(rt: &impl Abort, words: &str) -> Outcome {
+    let (kind, value) = cut(words);
+    match kind {
+        "done" => Outcome::Done,
+        "reading" => Outcome::Reading(value.parse::<i16>().ok().expect(rt, words)),
+        _ => {
+            assert!(rt; kind == "failed", "{words}");
+            failed_in(rt, value)
+        }
     }
 }
 
 /// A failure: the code of its severity, the number of its status message, and two values.
-fn failed_in(text: &str) -> Option<Outcome> {
-    let mut words = text.split_whitespace();
-    Some(Outcome::Failed {
-        severity: severity_in(words.next()?)?,
-        id: word_in(words.next()?)?,
-        v1: word_in(words.next()?)?,
-        v2: word_in(words.next()?)?,
-    })
+fn failed_in(rt: &impl Abort, words: &str) -> Outcome {
+    let (severity, words) = cut(words);
+    let (id, words) = cut(words);
+    let (v1, v2) = cut(words);
+    Outcome::Failed {
+        severity: severity_in(rt, severity),
+        id: word(rt, id),
+        v1: word(rt, v1),
+        v2: word(rt, v2),
+    }
 }
 
 /// The number that decimal digits print.
-fn decimal(digits: &str) -> Option<u32> {
-    digits.parse::<u32>().ok()
+fn decimal(rt: &impl Abort, digits: &str) -> u32 {
+    digits.parse::<u32>().ok().expect(rt, digits)
 }
 
 /// The severity of this code (E1.20 table A-4).
-fn severity_in(word: &str) -> Option<Severity> {
-    match word {
-        "02" => Some(Severity::Advisory),
-        "03" => Some(Severity::Warning),
-        "04" => Some(Severity::Error),
-        _ => None,
-    }
-}
-
-/// The number that hexadecimal digits print.
-fn word_in(digits: &str) -> Option<u16> {
-    u16::from_str_radix(digits, 16).ok()
-}
-
-/// The text without its blanks.
-fn without_blanks(alloc: Global, text: &str) -> Result<String, AllocError> {
-    let mut bare = String::new(alloc);
-    for part in text.split(' ') {
-        bare.push_str(part)?;
-    }
-    Ok(bare)
+fn severity_in(rt: &impl Abort, code: &str) -> Severity {
+    Severity::of(byte(rt, code)).expect(rt, code)
 }

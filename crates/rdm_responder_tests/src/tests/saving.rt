@@ -34,13 +34,17 @@ fn place_all(rt: &impl Abort, responder: &mut Responder, start: u8, cycles: &[u8
 #[test]
 fn an_image_has_its_length(rt: HostRuntime) {
     let responder = responder_with(&rt, rt.alloc(), 1, 1);
-    assert!(rt; responder.saved_len() == IMAGE);
     let mut short = [0xEE; IMAGE - 1];
-    assert!(rt; responder.save_into(&mut short) == Err(SaveError::Short));
-    assert!(rt; short == [0xEE; IMAGE - 1]);
+    let saved = (responder.saved_len(), responder.save_into(&mut short));
+    assert!(rt; saved == (IMAGE, Err(SaveError::Short)) && are_untouched(&short));
     let mut long = [0xEE; IMAGE + 1];
-    assert!(rt; responder.save_into(&mut long) == Ok(IMAGE));
-    assert!(rt; long[IMAGE] == 0xEE);
+    let saved = responder.save_into(&mut long);
+    assert!(rt; saved == Ok(IMAGE) && are_untouched(&long[IMAGE..]));
+}
+
+/// Whether bytes are those with which a list was filled.
+fn are_untouched(bytes: &[u8]) -> bool {
+    bytes.iter().all(|byte| *byte == 0xEE)
 }
 
 /// What the root shows then.
@@ -61,11 +65,11 @@ fn what_was_saved_is_restored(rt: HostRuntime) {
     let mut restored = responder_with(&rt, rt.alloc(), 1, 1);
     assert!(rt; restored.step(identify.as_slice()).0.is_some());
     assert!(rt; restored.change(rdm_params::Change::Personality(2)).is_ok());
-    assert!(rt; restored.restore(&image) == Ok(()));
+    let told = (restored.restore(&image), restored.waiting());
+    assert!(rt; told == (Ok(()), 1));
     for (pid, expected) in RESTORED {
         shows(&rt, &restored, *pid, expected);
     }
-    assert!(rt; restored.waiting() == 1);
 }
 
 /// What is saved of a responder that was switched on 41 times.
@@ -98,8 +102,8 @@ const POWER_CYCLES: &[([u8; 4], [u8; 4])] = &[
 fn restarts(rt: &impl Abort, responder: &mut Responder, before: &[u8], after: &[u8]) {
     let mut image = [0; IMAGE];
     place_all(rt, responder, 7, before);
-    assert!(rt; responder.save_into(&mut image) == Ok(IMAGE));
-    assert!(rt; responder.restore(&image) == Ok(()));
+    let told = (responder.save_into(&mut image), responder.restore(&image));
+    assert!(rt; told == (Ok(IMAGE), Ok(())));
     shows(rt, responder, 0x0405, after);
 }
 

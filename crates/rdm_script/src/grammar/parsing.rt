@@ -83,7 +83,7 @@ impl From<FaultyLine> for ScriptError {
 
 /// The script that the bytes are, played on the device of the demonstration: `dev` is 7FF0:00000001.
 ///
-/// Memory for the steps is taken first, so that whether the bytes are a script hangs on nothing else.
+/// Memory for the steps is taken first, so that afterwards the bytes alone decide whether they are a script.
 pub fn parse(alloc: Global, text: &[u8]) -> Result<Script, ScriptError>
     // What is read is a script of this setup and these steps.
     ensures ok { IfOk result (λ script. IsScript (strict demo_device) text.now script.setup script.steps.items) }
@@ -106,7 +106,7 @@ pub fn parse(alloc: Global, text: &[u8]) -> Result<Script, ScriptError>
 
 /// The script that the bytes are in a dialect.
 ///
-/// Memory for the steps is taken first, so that whether the bytes are a script hangs on nothing else.
+/// Memory for the steps is taken first, so that afterwards the bytes alone decide whether they are a script.
 pub fn parse_as(alloc: Global, dialect: &Dialect<'_>, text: &[u8]) -> Result<Script, ScriptError>
     // What is read is a script of this setup and these steps.
     ensures ok { IfOk result (λ script. IsScript dialect.now text.now script.setup script.steps.items) }

@@ -118,7 +118,7 @@ const REFUSALS: &[(&str, &str)] = &[
     ),
     (
         "\r\n  \nfoo\n",
-        "3:1: \"foo\" isn't a valid step: expected setup, get, set, disc, find, collect, draw, settle or panel",
+        "3:1: \"foo\" isn't a valid step: expected setup, get, set, disc, find, collect, draw, settle, panel or expect",
     ),
     (
         "draw\nsetup 0 8 advisory",
@@ -182,7 +182,7 @@ const REFUSALS: &[(&str, &str)] = &[
     ),
     (
         "draw\n  finds",
-        "2:3: \"finds\" isn't a valid step: expected setup, get, set, disc, find, collect, draw, settle or panel",
+        "2:3: \"finds\" isn't a valid step: expected setup, get, set, disc, find, collect, draw, settle, panel or expect",
     ),
     (
         "get dev root 1000 - lost-reply 1",

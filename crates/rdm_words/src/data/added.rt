@@ -2,9 +2,9 @@
 
 use crate::data::form::{Field, Meaning, Record, Value};
 use crate::frame::class::Class;
-use crate::tables::Table;
 use crate::tables::dimmers::{IDENTIFY_MODES, MERGE_MODES, NO_BLOCK, SCENES};
 use crate::tables::settings::{RESETS, SWITCHES, TRUTHS};
+use rdm_standard_names::Table;
 
 /// The fields of the data of a parameter, in frames of this class, if it is one of these.
 pub(crate) fn fields_of(class: Class, pid: u16) -> Option<Record> {

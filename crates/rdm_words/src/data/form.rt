@@ -3,7 +3,7 @@
 ghost use Rattle.std.specs.Prelude.{◌≡◌};
 ghost use Rattle.rdm_words.specs.LaidOut.{fields_of, fits};
 
-use crate::tables::Table;
+use rdm_standard_names::Table;
 
 /// What stands before the words of the data, if their words don't say what they are, and how they are laid out.
 #[derive(Clone, Copy)]

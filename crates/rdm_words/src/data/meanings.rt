@@ -13,11 +13,11 @@ use crate::data::times::put_time_or_pin;
 use crate::data::values::{number_of, put_behind, put_coded, put_data, put_named};
 use crate::frame::header::word_in;
 use crate::frame::place::put_place;
-use crate::tables::Table;
 use crate::tables::parameters::parameter;
 use crate::tables::settings::PRESETS;
-use crate::tables::slots::{SLOT_LABELS, SLOT_TYPES};
 use crate::text::{put_hex, put_quoted};
+use rdm_standard_names::Table;
+use rdm_standard_names::slots::{SLOT_LABELS, SLOT_TYPES};
 use std::alloc::AllocError;
 use std::fmt::Write;
 

@@ -11,14 +11,14 @@ use crate::data::lengths::put_other_length;
 use crate::data::sensors::put_unit;
 use crate::data::values::{number_of as number_in_slots, put_behind, put_coded, put_record};
 use crate::frame::class::Class;
-use crate::tables::Table;
 use crate::tables::parameters::parameter;
-use crate::tables::products::PRODUCT_DETAILS;
 use crate::text::{put_hex, put_quoted};
 use rdm_device::columns::added::{number_in, read_shape};
 use rdm_device::{Field, Shape};
 use rdm_frame::standard::{PARAMETER_DESCRIPTION, PRODUCT_DETAIL_ID_LIST, PROXIED_DEVICES};
 use rdm_frame::uid_at;
+use rdm_standard_names::Table;
+use rdm_standard_names::products::PRODUCT_DETAILS;
 use std::alloc::AllocError;
 use std::fmt::Write;
 

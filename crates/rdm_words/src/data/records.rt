@@ -1,11 +1,11 @@
 //! The fields of parameter data, by the sections of the standard that have them.
 
 use crate::data::form::{Field, Meaning, REST, Record, Value};
-use crate::tables::Table;
-use crate::tables::products::PRODUCT_CATEGORIES;
-use crate::tables::sensors::{KEPT_VALUES, SENSOR_TYPES};
 use crate::tables::settings::{PRESETS, SELF_TESTS};
 use rdm_frame::standard::ALL_SENSORS;
+use rdm_standard_names::Table;
+use rdm_standard_names::products::PRODUCT_CATEGORIES;
+use rdm_standard_names::sensors::{KEPT_VALUES, SENSOR_TYPES};
 
 /// A text of up to 32 characters.
 pub(crate) const TEXT: Record = Record::AtLeast(0, &[Field("", 0, REST, Value::Text)]);

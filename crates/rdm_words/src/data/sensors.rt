@@ -9,7 +9,7 @@ ghost use Rattle.rdm_words.specs.Naming.{AddsNames, PutsFacts};
 use crate::data::known::Facts;
 use crate::data::values::{put_behind, put_data, slots_at};
 use crate::frame::header::word_in;
-use crate::tables::sensors::{SENSOR_UNITS, UNIT_PREFIXES};
+use rdm_standard_names::sensors::{SENSOR_UNITS, UNIT_PREFIXES};
 use std::alloc::AllocError;
 use std::fmt::Write;
 

@@ -10,9 +10,9 @@ ghost use Rattle.rdm_words.specs.Naming.{AddsNames, PutsFacts};
 use crate::data::known::Facts;
 use crate::data::sensors::put_signed_word;
 use crate::data::values::{put_behind, put_coded, put_data, put_named};
-use crate::tables::slots::SLOT_LABELS;
 use crate::tables::statuses::{STATUS_IDS, status_type};
 use crate::text::{put_foreign, put_hex, put_word};
+use rdm_standard_names::slots::SLOT_LABELS;
 use std::alloc::AllocError;
 use std::fmt::Write;
 

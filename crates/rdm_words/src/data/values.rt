@@ -7,7 +7,7 @@ ghost use Rattle.rdm_words.specs.FieldFacts.{as_data, as_text, as_uid, number_in
 ghost use Rattle.rdm_words.specs.HeaderWords.{named_words, words_or};
 ghost use Rattle.rdm_words.specs.LaidOut.{AreSaid, SaysField, counted_facts, data_words, ends_apart, field_facts, fields_facts, fields_of, laid_facts, layout_facts, meaning_facts, noun_words, one_of, slots_facts};
 ghost use Rattle.rdm_words.specs.Naming.{AddsNames, PutsFacts};
-ghost use Rattle.rdm_words.specs.Tables.{name_of};
+ghost use Rattle.rdm_standard_names.specs.Tables.{name_of};
 
 use crate::data::form::{Field, Form, Layout, Meaning, Record, Value};
 use crate::data::known::Facts;
@@ -15,10 +15,10 @@ use crate::data::lists::{first_entry, put_entries};
 use crate::data::meanings::{put_control, put_listed, put_meaning, put_place_in, put_slot_use};
 use crate::data::sensors::{put_measured, put_range_in, put_signed, put_unit_code};
 use crate::data::statuses::{put_failure_in, put_status_id};
-use crate::tables::Table;
 use crate::tables::statuses::status_type;
 use crate::text::{put_hex, put_quoted};
 use rdm_frame::uid_at;
+use rdm_standard_names::Table;
 use std::alloc::AllocError;
 use std::fmt::Write;
 

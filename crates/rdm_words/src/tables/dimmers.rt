@@ -1,6 +1,6 @@
 //! What a dimmer can be set to (ANSI E1.37-1).
 
-use super::Table;
+use rdm_standard_names::Table;
 
 /// How a device identifies itself, by IDENTIFY_MODE.
 pub const IDENTIFY_MODES: Table = Table(&[(0x00, "quiet"), (0xFF, "loud")]);

@@ -1,6 +1,6 @@
 //! What a device can be set to.
 
-use super::Table;
+use rdm_standard_names::Table;
 
 /// What PRESET_PLAYBACK plays, if it isn't a scene (table A-7).
 pub const PRESETS: Table = Table(&[(0x0000, "off"), (0xFFFF, "all")]);

@@ -1,8 +1,8 @@
 //! What the status of a device tells.
 
-use super::Table;
 use rdm_frame::standard::GET_LAST_MESSAGE;
 use rdm_params::Severity;
+use rdm_standard_names::Table;
 
 /// A status type, as `warning` (table A-4).
 pub(crate) fn status_type(code: u8) -> Option<&'static str> {

@@ -5,7 +5,7 @@ use Rattle.rdm_words.specs.FieldFacts.{number_in}
 use Rattle.rdm_words.specs.HeaderWords.{quoted}
 use Rattle.rdm_words.specs.LaidOut.{slots_facts}
 use Rattle.rdm_words.specs.Naming.{PutsFacts}
-use Rattle.rdm_words.specs.Tables.{name_of}
+use Rattle.rdm_standard_names.specs.Tables.{name_of}
 use Rattle.rdm_words.proofs.LaidOut.{word_put, coded_put}
 use Rattle.rdm_words.proofs.data.values.put_slots.Goals as goal
 

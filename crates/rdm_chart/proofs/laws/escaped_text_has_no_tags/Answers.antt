@@ -1,6 +1,0 @@
-use Rattle.std.proofs.Common.{chars}
-use Rattle.rdm_chart.proofs.Plainness.{plain_in_markup}
-use Rattle.rdm_chart.proofs.laws.escaped_text_has_no_tags.Goals as goal
-
-pub returns : goal.returns
-returns c = λ text. plain_in_markup (chars text)

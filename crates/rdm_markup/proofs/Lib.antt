@@ -1,0 +1,2 @@
+mod Characters
+pub mod Plainness

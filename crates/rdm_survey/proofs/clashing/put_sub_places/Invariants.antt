@@ -1,7 +1,0 @@
-use Rattle.std.proofs.Common.{◌≡◌, ◌++◌, take}
-use Rattle.std.specs.List.{flat_map}
-use Rattle.rdm_survey.specs.Places.{sub_place}
-use Rattle.rdm_survey.proofs.clashing.put_sub_places.Given as goal
-
-abbrev pub invariant-loop-sub : goal.invariant-loop-sub
-invariant-loop-sub l = l.list.items ≡ l.fn.list.items ++ flat_map (sub_place l.uid) (take l.sub-index l.subs)

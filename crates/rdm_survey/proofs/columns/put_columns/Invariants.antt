@@ -1,7 +1,0 @@
-use Rattle.std.proofs.Common.{◌≡◌, ◌++◌, take}
-use Rattle.std.specs.List.{flat_map}
-use Rattle.rdm_survey.specs.Table.{row_place}
-use Rattle.rdm_survey.proofs.columns.put_columns.Given as goal
-
-abbrev pub invariant-loop-column : goal.invariant-loop-column
-invariant-loop-column l = l.text.items ≡ l.fn.text.items ++ flat_map (row_place l.row) (take l.column-index l.columns)
