@@ -78,9 +78,12 @@ static void refuse(felosumay_responder *fixture) {
 
 int main(void) {
     felosumay_responder fixture = {0};
-    felosumay_deadlines deadlines = {0};
-    if (felosumay_responder_demo(&fixture, MAKER, FIXTURE, 0, QUEUE_SIZE) != FELOSUMAY_DONE)
+    static felosumay_deadlines deadlines; /* all 0: it has seen no job */
+    felosumay_result result = felosumay_responder_demo(&fixture, MAKER, FIXTURE, 0, QUEUE_SIZE);
+    if (result != FELOSUMAY_DONE) {
+        printf("status %u\n", result);
         return 1;
+    }
     print_next_end(&fixture, &deadlines, 4294966296u);
     strike(&fixture, &deadlines, 4294966296u);
     turn(&fixture, 101);
