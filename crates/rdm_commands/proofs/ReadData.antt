@@ -117,3 +117,6 @@ one_taken p sub command verb spot bytes v first one said inside = one_device p s
 
 pub all_taken : (p : Parameters) (sub : ℕ) (command : Option Command) (verb : Verb) (bytes : List ℕ) (v : Value) (u : Unit {0}) → read command bytes ≡ Ok v → suits p sub command verb v ≡ Ok u → read_data p sub command verb bytes ≡ Ok v
 all_taken p sub command verb bytes v u said fit = ap (λ (r : Result Value Nack). r >>= taken p sub command verb) said ∙ fits (suits p sub command verb v) v u fit
+
+pub unsuited : (p : Parameters) (sub : ℕ) (command : Option Command) (verb : Verb) (bytes : List ℕ) (v : Value) (nack : Nack) → read command bytes ≡ Ok v → suits p sub command verb v ≡ Err nack → read_data p sub command verb bytes ≡ Err nack
+unsuited p sub command verb bytes v nack said unfit = ap (λ (r : Result Value Nack). r >>= taken p sub command verb) said ∙ refused (suits p sub command verb v) v nack unfit

@@ -23,10 +23,10 @@ mod commit;
 mod panel;
 mod placing;
 mod plain;
-mod read_data;
 mod saving;
 mod slow;
 mod starting;
+mod taking;
 mod thresholds;
 
 use crate::{Answer, Ask, Changed, Verdict, Work};
@@ -234,7 +234,7 @@ impl Devices {
 
     /// What a SET answers, or the first reason to reject it. `changed` tells whether it changed a value.
     #[inline(always)]
-    #[tactic(auto, unfolding(crate::specs::Commands::Commands::answer_by_row, crate::specs::Commands::Commands::after_by_row, crate::specs::Commands::Commands::accepted), using(crate::proofs::BlockCommands::tabled_answer, crate::proofs::BlockCommands::tabled_after, crate::proofs::AddedCommands::tabled, crate::proofs::AddedCommands::tabled_slow, crate::proofs::AddedCommands::tabled_free, crate::proofs::AddedCommands::locked_set, crate::proofs::AddedCommands::locked_leaves, crate::proofs::AddedCommands::no_device_set, crate::proofs::AddedCommands::no_device_leaves, crate::proofs::AddedCommands::lacking_set, crate::proofs::AddedCommands::lacking_leaves, crate::proofs::AddedCommands::table_set, crate::proofs::AddedCommands::table_leaves))]
+    #[tactic(auto, unfolding(crate::specs::Commands::Commands::answer_by_row, crate::specs::Commands::Commands::after_by_row, crate::specs::Commands::Commands::accepted), using(crate::proofs::ReadData::unread, crate::proofs::BlockCommands::tabled_answer, crate::proofs::BlockCommands::tabled_after, crate::proofs::AddedCommands::tabled, crate::proofs::AddedCommands::tabled_slow, crate::proofs::AddedCommands::tabled_free, crate::proofs::AddedCommands::locked_set, crate::proofs::AddedCommands::locked_leaves, crate::proofs::AddedCommands::no_device_set, crate::proofs::AddedCommands::no_device_leaves, crate::proofs::AddedCommands::lacking_set, crate::proofs::AddedCommands::lacking_leaves, crate::proofs::AddedCommands::table_set, crate::proofs::AddedCommands::table_leaves))]
     fn try_set(
         &mut self,
         sub: u16,
@@ -279,13 +279,15 @@ impl Devices {
         };
         // Apart from the others: what it hands in isn't kept for a write, and no lock keeps it from being done.
         if found.way.is_by_job() {
-            let value = self.read_data(sub, Verb::Set, found, &place, data)?;
+            let value = read_form(Verb::Set, found, data)?;
+            self.can_take(sub, Verb::Set, found, &place, data, &value)?;
             return Ok(self.answer_to_set(sub, found, &value, body));
         }
         if self.is_locked(pid) {
             return Err(Nack::WriteProtect);
         }
-        let value = self.read_data(sub, Verb::Set, found, &place, data)?;
+        let value = read_form(Verb::Set, found, data)?;
+        self.can_take(sub, Verb::Set, found, &place, data, &value)?;
         *changed = self.carry_out(sub, found.kind, &value);
         Ok(self.answer_to_set(sub, found, &value, body))
     }

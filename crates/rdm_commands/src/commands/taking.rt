@@ -1,43 +1,46 @@
-//! What the data of a command stand for.
+//! Whether devices can take what the data of a command stand for.
 
-ghost use Rattle.std.specs.Prelude.{Some, Ok, ◌≡◌, ◌≤◌, length, slice_get, true, IfSome};
+ghost use Rattle.std.specs.Prelude.{Some, Ok, Err, ◌≡◌, ◌≤◌, length, slice_get, true, IfSome, IfErr, IsOk};
 ghost use Rattle.std.specs.List.{list_all};
 ghost use Rattle.rdm_commands.specs.Commands.Commands.{read_data, suits, addressed, is_all_call};
 ghost use Rattle.rdm_table.specs.Table.Rows.{command_of};
 ghost use Rattle.rdm_table.specs.Table.Kinds.{pid_of};
-ghost use Rattle.rdm_table.specs.Table.Uses.{way_of, is_bare, in_range_of};
+ghost use Rattle.rdm_table.specs.Table.Uses.{way_of, is_bare, read, in_range_of};
 
 use super::Devices;
 use super::addressing::is_all_call;
 use rdm_device::{Argument, Place};
 use rdm_frame::Nack;
-use rdm_table::{Found, Kind, Verb, all_in_range, is_taken_at, read_form};
+use rdm_table::{Found, Kind, Verb, all_in_range, is_taken_at};
 
 impl Devices {
-    /// The value that the data of a command stand for, if the devices that it is for can take that, or the first reason why not.
+    /// Whether the devices that a command is for can take the value that its data stand for, or the first reason why not.
+    // The caller keeps the value: one that is handed on behind these tests is copied.
     #[inline(always)]
-    #[tactic(auto, using(crate::proofs::ReadData::unread, crate::proofs::ReadData::out_of_range, crate::proofs::ReadData::one_taken, crate::proofs::ReadData::all_taken))]
-    pub(super) fn read_data<'a>(
+    #[tactic(auto, using(crate::proofs::ReadData::out_of_range, crate::proofs::ReadData::one_taken, crate::proofs::ReadData::all_taken, crate::proofs::ReadData::unsuited))]
+    pub(super) fn can_take(
         &self,
         sub: u16,
         verb: Verb,
         found: Found,
         place: &Place<'_>,
-        data: &'a [u8],
-    ) -> Result<Argument<'a>, Nack>
+        data: &[u8],
+        value: &Argument<'_>,
+    ) -> Result<(), Nack>
         requires first { slice_get (addressed self.now sub verb) 0 ≡ Some place.now }
         requires way { found.way ≡ way_of (command_of (pid_of found.kind) verb) }
         requires bare { found.is_bare ≡ is_bare (command_of (pid_of found.kind) verb) }
-        ensures { result ≡ read_data self.now sub (command_of (pid_of found.kind) verb) verb data.now }
+        requires read { read (command_of (pid_of found.kind) verb) data.now ≡ Ok value.now }
+        ensures ok { IsOk result → read_data self.now sub (command_of (pid_of found.kind) verb) verb data.now ≡ Ok value.now }
+        ensures err { IfErr result (λ nack. read_data self.now sub (command_of (pid_of found.kind) verb) verb data.now ≡ Err nack) }
     {
-        let value = read_form(verb, found, data)?;
-        if !is_taken_at(verb, found, place, &value) {
+        if !is_taken_at(verb, found, place, value) {
             return Err(Nack::DataOutOfRange);
         }
         if is_all_call(sub, verb) {
-            self.suits_each(sub, verb, found, &value)?;
+            self.suits_each(sub, verb, found, value)?;
         }
-        Ok(value)
+        Ok(())
     }
 
     /// Whether every sub-device can take a value at once, if the first can, or the first reason why not.
