@@ -159,14 +159,15 @@ def start(stack, room, program):
 
 
 @contextlib.contextmanager
-def line(room, program):
+def line(room, program, prepare=lambda: None):
     """A line with this program at its other end, in new folders whose names begin like the room's.
 
-    On a machine under load the program may not be ready when olad asks. Then all is started again.
+    On a machine under load the program may not be ready when olad asks. Then all is started again. Before each start this is prepared.
     """
     if olad_listens():
         raise Fault(f"an olad listens at {OLAD[0]}:{OLAD[1]} already, and the clients would ask that one: end it first")
     for left in reversed(range(TIMES_TO_START)):
+        prepare()
         with contextlib.ExitStack() as stack:
             try:
                 start(stack, room.with_name(f"{room.name}{left}"), program)
