@@ -42,7 +42,7 @@ _felosumay() {
             continue
         fi
         case $piece in
-            --by | --chart | --collision | --count | --fixture | --format | --from | --gap | --junit | --limit | --output | --port | --saved | --speed | --sub | --subs | --trace | --trace-as | --uid | -o) option=$piece ;;
+            --by | --chart | --collision | --count | --fixture | --format | --from | --gap | --junit | --limit | --names | --output | --port | --saved | --speed | --sub | --subs | --trace | --trace-as | --uid | -o) option=$piece ;;
             -*) ;;
             *) given+=("$piece") ;;
         esac
@@ -151,7 +151,7 @@ _felosumay() {
             'words') _felosumay_among '--fixture --format -h --help -V --version' ;;
             'chart') _felosumay_among '-o --output --fixture -h --help -V --version' ;;
             'check') _felosumay_among '--fixture --subs --all -h --help -V --version' ;;
-            'fixture') _felosumay_among '-h --help -V --version' ;;
+            'fixture') _felosumay_among '--names -h --help -V --version' ;;
             'parameters') _felosumay_among '--fixture -h --help -V --version' ;;
             'test') _felosumay_among '--port --limit --trace --from --junit -h --help -V --version' ;;
             'widget') _felosumay_among '--fixture --count --collision --subs --speed --saved -h --help -V --version' ;;

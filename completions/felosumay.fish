@@ -9,7 +9,7 @@ function __felosumay_given
             continue
         end
         switch $word
-            case --by --chart --collision --count --fixture --format --from --gap --junit --limit --output --port --saved --speed --sub --subs --trace --trace-as --uid -o
+            case --by --chart --collision --count --fixture --format --from --gap --junit --limit --names --output --port --saved --speed --sub --subs --trace --trace-as --uid -o
                 set is_value yes
             case '-*'
             case '*'
@@ -81,6 +81,7 @@ complete -c felosumay -n '__felosumay_at "check"' -l all -d 'Also print the repl
 complete -c felosumay -n '__felosumay_at "check"' -s h -l help -d 'Print help'
 complete -c felosumay -n '__felosumay_at "check"' -s V -l version -d 'Print version'
 complete -c felosumay -n '__felosumay_at "fixture" 0' -F
+complete -c felosumay -n '__felosumay_at "fixture"' -l names -x -d 'Instead list the names that a fixture file can have for its sensors, units, prefixes, categories, slots or labels'
 complete -c felosumay -n '__felosumay_at "fixture"' -s h -l help -d 'Print help'
 complete -c felosumay -n '__felosumay_at "fixture"' -s V -l version -d 'Print version'
 complete -c felosumay -n '__felosumay_at "parameters" 0' -a '(sh -c \'felosumay parameters 2>/dev/null | cut -d, -f1 | cut -d" " -f2\')'

@@ -115,7 +115,7 @@ fn par_can_is_described(rt: HostRuntime) -> Result<(), Fail> {
     for words in [
         "uid = \"7FF0:00000040\"",
         "device_model_id = 64",
-        "product_category = 257",
+        "product_category = \"fixture, fixed\"",
         "device_label = \"PAR\"",
         "software_version_label = \"1.0\"",
         "dmx_footprint = 3",
@@ -125,7 +125,7 @@ fn par_can_is_described(rt: HostRuntime) -> Result<(), Fail> {
         "present = 25",
         "sensor_value = 7",
         "answered_at_once = false",
-        "label_id = 517",
+        "label_id = \"color add red\"",
         "default_value = 128",
         "description = \"Fan\"",
         "description = \"Fan blocked\"",

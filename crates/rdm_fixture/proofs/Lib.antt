@@ -15,6 +15,7 @@ pub mod Texts
 pub mod WrittenLists
 pub mod ChoiceNumbers
 pub mod Said
+pub mod WrittenNames
 pub mod WrittenEntries
 pub mod WrittenUnits
 pub mod WrittenRules

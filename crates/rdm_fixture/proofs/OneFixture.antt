@@ -32,7 +32,7 @@ use Rattle.rdm_fixture.specs.Describes.{Describes}
 use Rattle.rdm_fixture.specs.FirstWrong.{AreNamed, AreLocked}
 use Rattle.rdm_fixture_keys.specs.Keys.{may, must}
 use Rattle.rdm_fixture.specs.Lists.{OfTable, EachIs, ListAt, Lists}
-use Rattle.rdm_fixture_keys.specs.Values.{flag, number, language}
+use Rattle.rdm_fixture_keys.specs.Values.{flag, label_id, number, language}
 use Rattle.rdm_fixture.specs.Parameters.{IsField, SaysParameter, IsParameter, greatest_said, low_in, high_in, start, is_setting}
 use Rattle.rdm_fixture.specs.Starting.{SaysPresent, IsStarting}
 use Rattle.rdm_fixture.specs.Outcomes.{IsOutcome}
@@ -116,7 +116,11 @@ pub same_slot : {a0 b0 : ℕ} {a1 b1 : ℕ} {a2 b2 : ℕ} {a3 b3 : List ℕ}
 same_slot e0 e1 e2 e3 = rw (e0, e1, e2, e3) refl
 
 pub one_slot : SaysOne IsSlot
-one_slot t x y p q = same_slot (one p.kind q.kind) (one p.label q.label) (one p.value q.value) (one p.name q.name)
+one_slot t x y p q =
+    let kind : x.kind ≡ y.kind = one p.kind q.kind in
+    let label : must (label_id y.kind) (get_member (codes "label_id") t) ≡ Some x.label =
+    subst (λ k. must (label_id k) (get_member (codes "label_id") t) ≡ Some x.label) kind p.label in
+    same_slot kind (one label q.label) (one p.value q.value) (one p.name q.name)
 
 abbrev pub sensor_of : ℕ → ℕ → ℕ → ℤ → ℤ → ℤ → ℤ → ℕ → List ℕ → Bool → SensorDef
 sensor_of a0 a1 a2 a3 a4 a5 a6 a7 a8 a9 = record { kind = a0; unit = a1; prefix = a2; low = a3; high = a4; normal_low = a5; normal_high = a6; support = a7; name = a8; at_once = a9 }

@@ -13,7 +13,8 @@ use Rattle.toml.specs.Data.{Data, Members, get_member}
 use Rattle.rdm_fixture.specs.Describable.{are_printable, can_stand, limits_stand, is_sayable}
 use Rattle.rdm_fixture_keys.specs.Keys.{may, must, Must, May, has_only}
 use Rattle.rdm_fixture.specs.Lists.{OfTable, Lists}
-use Rattle.rdm_fixture_keys.specs.Values.{integer_from, flag, number, text}
+use Rattle.rdm_fixture_keys.specs.Values.{integer_from, flag, named, number, text}
+use Rattle.rdm_standard_names.specs.declared.kind.NameKind.TheVariants.{Prefixes, Units}
 use Rattle.rdm_fixture.specs.Parameters.{IsField, SaysParameter, IsParameter, parameter_keys, own_pid, command_class, least_of, greatest_of, limit, low_in, high_in, shape_in, slots_of, spelled, start, start as starting, is_setting, can_reset}
 use Rattle.rdm_fixture.proofs.NumberSlots.{le_through, le_same, least_greatest, in_shape, within_from}
 use Rattle.rdm_fixture.proofs.Starts.{IsSized, sized, spelled_slots, stands}
@@ -133,7 +134,7 @@ parameter_is : (t : Members) (pid : ℕ) (rights : Rights) (shape : Shape) (low 
     → IsTrue (has_only parameter_keys t) → Must t (codes "pid") own_pid pid → Must t (codes "command_class") command_class rights
     → shape_in t ≡ Some shape → low_in shape t ≡ Some low → high_in shape low t ≡ Some high
     → Lists t (codes "fields") (OfTable IsField) 0 8 fields.items → Must t (codes "default_value") (starting shape low high) start
-    → May t (codes "unit") 0 (number 0 0xFF) unit → May t (codes "prefix") 0 (number 0 0xFF) prefix
+    → May t (codes "unit") 0 (named Units) unit → May t (codes "prefix") 0 (named Prefixes) prefix
     → May t (codes "factory_defaults") (is_setting rights shape) flag resets → May t (codes "description") [] text name
     → SaysParameter t (record { pid = pid; rights = rights; shape = shape; low = low; high = high; fields = fields; start = start; unit = unit; prefix = prefix; name = name; resets = resets })
 parameter_is t pid rights shape low high fields start unit prefix resets name keys at_pid at_rights at_shape at_low at_high at_fields at_start at_unit at_prefix at_resets at_name =
@@ -158,7 +159,7 @@ pub parameter_at : (t : Members) (pid : ℕ) (rights : Rights) (shape : Shape) (
     → IsTrue (has_only parameter_keys t) → Must t (codes "pid") own_pid pid → Must t (codes "command_class") command_class rights
     → shape_in t ≡ Some shape → low_in shape t ≡ Some low → high_in shape low t ≡ Some high
     → Lists t (codes "fields") (OfTable IsField) 0 8 fields.items → Must t (codes "default_value") (starting shape low high) start
-    → May t (codes "unit") 0 (number 0 0xFF) unit → May t (codes "prefix") 0 (number 0 0xFF) prefix
+    → May t (codes "unit") 0 (named Units) unit → May t (codes "prefix") 0 (named Prefixes) prefix
     → May t (codes "factory_defaults") (is_setting rights shape) flag resets → May t (codes "description") [] text name
     → SaysParameter t (record { pid = pid; rights = rights; shape = shape; low = low2; high = high2; fields = fields; start = start; unit = unit; prefix = prefix; name = name; resets = resets })
 parameter_at t pid rights shape low high low2 high2 fields start unit prefix resets name same_low same_high keys at_pid at_rights at_shape at_low at_high at_fields at_start at_unit at_prefix at_resets at_name =

@@ -17,9 +17,12 @@ use Rattle.rdm_fixture_keys.specs.Entries.{IsPersonality, IsSlot, IsSensor, IsSe
 use Rattle.rdm_fixture.specs.Format.{IsLocking, locked_pid, IsEstimates, IsWorkers, estimates_keys, workers_keys, locking_keys}
 use Rattle.rdm_fixture_keys.specs.Keys.{may}
 use Rattle.rdm_fixture.specs.Lists.{ListAt}
-use Rattle.rdm_fixture_keys.specs.Values.{flag, number, worker, signed, text}
+use Rattle.rdm_fixture_keys.specs.Values.{flag, label_id, named, number, worker, signed, text}
+use Rattle.rdm_standard_names.specs.declared.kind.NameKind.TheVariants.{Prefixes, Sensors, Slots, Units}
 use Rattle.rdm_fixture.specs.Starting.{measured, SaysPresent}
-use Rattle.rdm_fixture.specs.Writing.{text_field, locking_of, IsPlain}
+use Rattle.rdm_fixture.specs.Writing.{text_field, named_field, label_field, locking_of, IsPlain}
+use Rattle.rdm_standard_names.specs.declared.kind.NameKind.{NameKind}
+use Rattle.rdm_fixture.proofs.WrittenNames.{label_plain, named_plain}
 use Rattle.rdm_fixture.proofs.Fields.{Field, members_from, get_from, only_from, plain_from}
 use Rattle.rdm_fixture.proofs.Said.{number_says, must_say, may_say, may_text, or_none, number_plain, flag_plain, text_plain, option_plain}
 
@@ -28,7 +31,7 @@ use Rattle.rdm_fixture.proofs.Said.{number_says, must_say, may_say, may_text, or
 abbrev pub slot_fields : Slot → List Field
 slot_fields s =
     (codes "description", text_field s.name) ∷ (codes "default_value", Some (integer (pos s.value)))
-    ∷ (codes "label_id", Some (integer (pos s.label))) ∷ (codes "type", Some (integer (pos s.kind))) ∷ []
+    ∷ (codes "label_id", Some (label_field s.kind s.label)) ∷ (codes "type", Some (named_field Slots s.kind)) ∷ []
 
 abbrev pub says_byte : ℕ → Type 0
 says_byte n = number 0 0xFF (integer (pos n)) ≡ Some n
@@ -39,23 +42,26 @@ says_word n = number 0 0xFFFF (integer (pos n)) ≡ Some n
 abbrev pub says_long : ℕ → Type 0
 says_long n = number 0 0xFFFFFFFF (integer (pos n)) ≡ Some n
 
+abbrev pub says_named : NameKind → ℕ → Type 0
+says_named kind n = named kind (named_field kind n) ≡ Some n
+
 abbrev pub says_signed : ℤ → Type 0
 says_signed z = signed (integer z) ≡ Some z
 
 abbrev pub says_text : List ℕ → Type 0
 says_text s = may [] text (text_field s) ≡ Some s
 
-pub slot_says : (s : Slot) → says_byte s.kind → says_word s.label → says_byte s.value → says_text s.name → IsSlot (members_from (slot_fields s)) s
+pub slot_says : (s : Slot) → says_named Slots s.kind → label_id s.kind (label_field s.kind s.label) ≡ Some s.label → says_byte s.value → says_text s.name → IsSlot (members_from (slot_fields s)) s
 slot_says s kind label value name = let fs = slot_fields s in record {
   keys = only_from slot_keys fs refl;
-  kind = may_say (codes "type") fs 0 (number 0 0xFF) _ _ refl kind;
-  label = must_say (codes "label_id") fs (number 0 0xFFFF) _ _ refl label;
+  kind = may_say (codes "type") fs 0 (named Slots) _ _ refl kind;
+  label = must_say (codes "label_id") fs (label_id s.kind) _ _ refl label;
   value = may_say (codes "default_value") fs 0 (number 0 0xFF) _ _ refl value;
   name = may_text (codes "description") fs s.name refl name;
 }
 
 pub slot_plain : (s : Slot) → IsPlain 1 (table (members_from (slot_fields s)))
-slot_plain s = plain_from 0 (slot_fields s) (text_plain 0 (codes "description") s.name _ (number_plain 0 _, (number_plain 0 _, (number_plain 0 _, tt))))
+slot_plain s = plain_from 0 (slot_fields s) (text_plain 0 (codes "description") s.name _ (number_plain 0 _, (label_plain 0 s.kind s.label, (named_plain 0 Slots s.kind, tt))))
 
 -- ---- sensors
 
@@ -65,20 +71,20 @@ sensor_fields s given =
     ∷ (codes "recorded_value_support", Some (integer (pos s.support)))
     ∷ (codes "normal_maximum_value", Some (integer s.normal_high)) ∷ (codes "normal_minimum_value", Some (integer s.normal_low))
     ∷ (codes "range_maximum_value", Some (integer s.high)) ∷ (codes "range_minimum_value", Some (integer s.low))
-    ∷ (codes "prefix", Some (integer (pos s.prefix))) ∷ (codes "unit", Some (integer (pos s.unit)))
-    ∷ (codes "type", Some (integer (pos s.kind))) ∷ []
+    ∷ (codes "prefix", Some (named_field Prefixes s.prefix)) ∷ (codes "unit", Some (named_field Units s.unit))
+    ∷ (codes "type", Some (named_field Sensors s.kind)) ∷ []
 
 pub present_says : (s : SensorDef) (given : Option Data) (present : Option ℤ) → may None measured given ≡ Some present
     → SaysPresent (members_from (sensor_fields s given)) present
 present_says s given present is = ap (may None measured) (get_from (codes "present") (sensor_fields s given) ∙ or_none given) ∙ is
 
-pub sensor_says : (s : SensorDef) (given : Option Data) → says_byte s.kind → says_byte s.unit → says_byte s.prefix → says_signed s.low → says_signed s.high
+pub sensor_says : (s : SensorDef) (given : Option Data) → says_named Sensors s.kind → says_named Units s.unit → says_named Prefixes s.prefix → says_signed s.low → says_signed s.high
     → says_signed s.normal_low → says_signed s.normal_high → says_byte s.support → says_text s.name → IsSensor (members_from (sensor_fields s given)) s
 sensor_says s given kind unit prefix low high normal_low normal_high support name = let fs = sensor_fields s given in record {
   keys = only_from sensor_keys fs refl;
-  kind = must_say (codes "type") fs (number 0 0xFF) _ _ refl kind;
-  unit = may_say (codes "unit") fs 0 (number 0 0xFF) _ _ refl unit;
-  prefix = may_say (codes "prefix") fs 0 (number 0 0xFF) _ _ refl prefix;
+  kind = must_say (codes "type") fs (named Sensors) _ _ refl kind;
+  unit = may_say (codes "unit") fs 0 (named Units) _ _ refl unit;
+  prefix = may_say (codes "prefix") fs 0 (named Prefixes) _ _ refl prefix;
   low = may_say (codes "range_minimum_value") fs (neg_ℤ (pos 32768)) signed _ _ refl low;
   high = may_say (codes "range_maximum_value") fs (pos 32767) signed _ _ refl high;
   normal_low = may_say (codes "normal_minimum_value") fs (neg_ℤ (pos 32768)) signed _ _ refl normal_low;
@@ -91,7 +97,7 @@ sensor_says s given kind unit prefix low high normal_low normal_high support nam
 pub sensor_plain : (s : SensorDef) (given : Option Data) → ((d : Data) → given ≡ Some d → IsPlain 0 d) → IsPlain 1 (table (members_from (sensor_fields s given)))
 sensor_plain s given is =
     plain_from 0 (sensor_fields s given)
-    (option_plain 0 (codes "present") given _ is (flag_plain 0 _, text_plain 0 (codes "description") s.name _ (number_plain 0 _, (number_plain 0 _, (number_plain 0 _, (number_plain 0 _, (number_plain 0 _, (number_plain 0 _, (number_plain 0 _, (number_plain 0 _, tt))))))))))
+    (option_plain 0 (codes "present") given _ is (flag_plain 0 _, text_plain 0 (codes "description") s.name _ (number_plain 0 _, (number_plain 0 _, (number_plain 0 _, (number_plain 0 _, (number_plain 0 _, (named_plain 0 Prefixes s.prefix, (named_plain 0 Units s.unit, (named_plain 0 Sensors s.kind, tt))))))))))
 
 -- ---- names of choices
 

@@ -21,15 +21,17 @@ use Rattle.rdm_fixture.specs.Describable.{are_printable, can_stand, limits_stand
 use Rattle.rdm_fixture.specs.Format.{parameter_named}
 use Rattle.rdm_fixture_keys.specs.Keys.{must}
 use Rattle.rdm_fixture.specs.Lists.{EachIs, ListAt, OfTable}
-use Rattle.rdm_fixture_keys.specs.Values.{integer_from, flag, number}
+use Rattle.rdm_fixture_keys.specs.Values.{integer_from, flag, named, number}
+use Rattle.rdm_standard_names.specs.declared.kind.NameKind.TheVariants.{Prefixes, Units}
 use Rattle.rdm_fixture.specs.Parameters.{IsField, field_keys, width, greatest_said, SaysParameter, IsParameter, parameter_keys, own_pid, command_class, data_type, slots_of, shape_in, least_of, greatest_of, limit, start, is_setting, can_reset}
-use Rattle.rdm_fixture.specs.Writing.{text_field, rights_name, shape_name, IsPlain}
+use Rattle.rdm_fixture.specs.Writing.{named_field, text_field, rights_name, shape_name, IsPlain}
+use Rattle.rdm_fixture.proofs.WrittenNames.{named_plain}
 use Rattle.rdm_fixture.proofs.Fields.{Field, members_from, get_from, only_from, plain_from}
 use Rattle.rdm_fixture.proofs.ListEntries.{EachIs-last}
 use Rattle.rdm_fixture.proofs.NumberSlots.{le_through, integer_again, can_be_of}
 use Rattle.rdm_fixture.proofs.Said.{must_say, may_say, may_text, or_none, number_plain, flag_plain, text_plain, option_plain}
 use Rattle.rdm_fixture.proofs.Starts.{type_again, rights_again, start_sized}
-use Rattle.rdm_fixture.proofs.WrittenEntries.{says_byte, says_word, says_long, says_text}
+use Rattle.rdm_fixture.proofs.WrittenEntries.{says_named, says_word, says_long, says_text}
 
 -- ---- the numbers that slots say
 
@@ -60,7 +62,7 @@ number_plain_field f = plain_from 0 (numbers_fields f) (number_plain 0 _, (numbe
 abbrev pub parameter_fields : ParameterDef → Option Data → Data → List Field
 parameter_fields d numbers given =
     (codes "description", text_field d.name) ∷ (codes "factory_defaults", Some (boolean d.resets))
-    ∷ (codes "prefix", Some (integer (pos d.prefix))) ∷ (codes "unit", Some (integer (pos d.unit)))
+    ∷ (codes "prefix", Some (named_field Prefixes d.prefix)) ∷ (codes "unit", Some (named_field Units d.unit))
     ∷ (codes "default_value", Some given) ∷ (codes "fields", numbers) ∷ (codes "maximum_valid_value", Some (integer d.high))
     ∷ (codes "minimum_valid_value", Some (integer d.low)) ∷ (codes "data_type", Some (string (shape_name d.shape)))
     ∷ (codes "command_class", Some (string (rights_name d.rights))) ∷ (codes "pid", Some (integer (pos d.pid))) ∷ []
@@ -70,7 +72,7 @@ pid_again n says free =
     ap (option_and_then (λ pid. if is_addable pid then Some pid else None)) says ∙ ap (λ (b : Bool). if b then Some n else None) free
 
 said_again : (d : ParameterDef) (numbers : Option Data) (given : Data) → IsTrue (is_addable d.pid) → IsTrue (can_start d) → IsTrue (is_sayable d)
-    → says_word d.pid → says_byte d.unit → says_byte d.prefix → says_text d.name
+    → says_word d.pid → says_named Units d.unit → says_named Prefixes d.prefix → says_text d.name
     → ListAt (OfTable IsField) numbers d.fields.items → length d.fields.items ≤ 8
     → start d.shape d.low d.high given ≡ Some d.start → SaysParameter (members_from (parameter_fields d numbers given)) d
 said_again d numbers given free good said pid unit prefix name listed few starts =
@@ -96,8 +98,8 @@ said_again d numbers given free good said pid unit prefix name listed few starts
           (integer_again d.low (greatest_of d.shape) d.high order greatest);
       fields = record { items = rw (get_from (codes "fields") fs, or_none numbers) listed; enough = omega arith; fit = few };
       start = must_say (codes "default_value") fs (start d.shape d.low d.high) _ _ refl starts;
-      unit = may_say (codes "unit") fs 0 (number 0 0xFF) _ _ refl unit;
-      prefix = may_say (codes "prefix") fs 0 (number 0 0xFF) _ _ refl prefix;
+      unit = may_say (codes "unit") fs 0 (named Units) _ _ refl unit;
+      prefix = may_say (codes "prefix") fs 0 (named Prefixes) _ _ refl prefix;
       resets = may_say (codes "factory_defaults") fs (is_setting d.rights d.shape) flag _ _ refl refl;
       name = may_text (codes "description") fs d.name refl name;
     }
@@ -120,7 +122,7 @@ reset_stands : (d : ParameterDef) → IsTrue (is_sayable d) → IsTrue (can_rese
 reset_stands d said = (and_parts (are_printable d.name) (can_reset d) (last_stand d said)).1
 
 pub parameter_says : (d : ParameterDef) (numbers : Option Data) (given : Data) → IsTrue (is_addable d.pid) → IsTrue (can_start d) → IsTrue (has_good_fields d)
-    → IsTrue (follows d) → IsTrue (is_sayable d) → says_word d.pid → says_byte d.unit → says_byte d.prefix → says_text d.name
+    → IsTrue (follows d) → IsTrue (is_sayable d) → says_word d.pid → says_named Units d.unit → says_named Prefixes d.prefix → says_text d.name
     → ListAt (OfTable IsField) numbers d.fields.items → length d.fields.items ≤ 8
     → start d.shape d.low d.high given ≡ Some d.start → IsParameter (members_from (parameter_fields d numbers given)) d
 parameter_says d numbers given free good fields standard said pid unit prefix name listed few starts = record {
@@ -147,9 +149,9 @@ parameter_plain d numbers given are is =
     (text_plain 2 (codes "description") d.name _ (
       flag_plain 2 _,
       (
-        number_plain 2 _,
+        named_plain 2 Prefixes d.prefix,
         (
-          number_plain 2 _,
+          named_plain 2 Units d.unit,
           (
             is,
             option_plain 2 (codes "fields") numbers _ are

@@ -12,18 +12,20 @@ use Rattle.rdm_fixture_keys.specs.Keys.{may, must, has_only}
 use Rattle.rdm_fixture.specs.Lists.{ListAt, OfTable}
 use Rattle.rdm_fixture.specs.declared.starting.Starting.{Starting}
 use Rattle.rdm_fixture.specs.Starting.{IsCounted, counter_keys}
-use Rattle.rdm_fixture_keys.specs.Values.{number, text}
-use Rattle.rdm_fixture.specs.Writing.{text_field, IsPlain}
+use Rattle.rdm_fixture_keys.specs.Values.{named, number, text}
+use Rattle.rdm_standard_names.specs.declared.kind.NameKind.TheVariants.{Categories}
+use Rattle.rdm_fixture.specs.Writing.{text_field, named_field, IsPlain}
+use Rattle.rdm_fixture.proofs.WrittenNames.{named_plain}
 use Rattle.rdm_fixture.proofs.Fields.{Field, members_on, members_from, find_on, get_on, get_from, only_on, only_from, plain_on, plain_from, and_two, first_true, second_true}
 use Rattle.rdm_fixture.proofs.Said.{number_says, must_say, may_say, may_text, or_none, number_plain, text_plain, option_plain}
-use Rattle.rdm_fixture.proofs.WrittenEntries.{says_word, says_long, says_text}
+use Rattle.rdm_fixture.proofs.WrittenEntries.{says_named, says_word, says_long, says_text}
 
 -- all but the personalities
 abbrev pub unit_fields_but : DeviceUnit → List Field
 unit_fields_but u =
     (codes "dmx_start_address", Some (integer (pos u.start)))
     ∷ (codes "software_version_label", text_field u.software_text) ∷ (codes "software_version_id", Some (integer (pos u.software)))
-    ∷ (codes "product_category", Some (integer (pos u.category))) ∷ (codes "device_label", text_field u.label)
+    ∷ (codes "product_category", Some (named_field Categories u.category)) ∷ (codes "device_label", text_field u.label)
     ∷ (codes "manufacturer_label", text_field u.maker_text) ∷ (codes "device_model_description", text_field u.model_text)
     ∷ (codes "device_model_id", Some (integer (pos u.model))) ∷ []
 
@@ -31,7 +33,7 @@ abbrev pub unit_fields : DeviceUnit → Option Data → List Field
 unit_fields u list = (codes "personality", list) ∷ unit_fields_but u
 
 pub unit_says : (slots : ℕ) (u : DeviceUnit) (list : Option Data) → IsGoodUnit u slots → length u.personalities.items ≤ 8
-    → says_word u.model → says_word u.category → says_long u.software
+    → says_word u.model → says_named Categories u.category → says_long u.software
     → says_text u.model_text → says_text u.maker_text → says_text u.label → says_text u.software_text
     → ListAt (OfTable (IsPersonality slots)) list u.personalities.items → IsUnit slots (members_from (unit_fields u list)) u
 unit_says slots u list good fit model category software model_text maker_text label software_text items = let fs = unit_fields u list in record {
@@ -39,7 +41,7 @@ unit_says slots u list good fit model category software model_text maker_text la
   model_text = may_text (codes "device_model_description") fs u.model_text refl model_text;
   maker_text = may_text (codes "manufacturer_label") fs u.maker_text refl maker_text;
   label = may_text (codes "device_label") fs u.label refl label;
-  category = may_say (codes "product_category") fs 0 (number 0 0xFFFF) _ _ refl category;
+  category = may_say (codes "product_category") fs 0 (named Categories) _ _ refl category;
   software = may_say (codes "software_version_id") fs 0 (number 0 0xFFFFFFFF) _ _ refl software;
   software_text = may_text (codes "software_version_label") fs u.software_text refl software_text;
   start = may_say (codes "dmx_start_address") fs 1 (number 1 512) _ _ refl (number_says 1 512 u.start good.start_least good.start_greatest);
@@ -67,7 +69,7 @@ unit_plain u list is =
       text_plain 2 (codes "software_version_label") u.software_text _ (
         number_plain 2 _,
         (
-          number_plain 2 _,
+          named_plain 2 Categories u.category,
           text_plain 2 (codes "device_label") u.label _
               (text_plain 2 (codes "manufacturer_label") u.maker_text _ (text_plain 2 (codes "device_model_description") u.model_text _ (number_plain 2 _, tt))),
         ),
@@ -98,7 +100,7 @@ module _ (base : Members) (fs : List Field) where
     model_text = kept (codes "device_model_description") (may [] text) u.model_text b is.model_text;
     maker_text = kept (codes "manufacturer_label") (may [] text) u.maker_text c is.maker_text;
     label = kept (codes "device_label") (may [] text) u.label d is.label;
-    category = kept (codes "product_category") (may 0 (number 0 0xFFFF)) u.category e is.category;
+    category = kept (codes "product_category") (may 0 (named Categories)) u.category e is.category;
     software = kept (codes "software_version_id") (may 0 (number 0 0xFFFFFFFF)) u.software f is.software;
     software_text = kept (codes "software_version_label") (may [] text) u.software_text g is.software_text;
     start = kept (codes "dmx_start_address") (may 1 (number 1 512)) u.start h is.start;

@@ -34,7 +34,8 @@ use Rattle.rdm_fixture_keys.specs.Values.{integer_from, flag, within, number, wo
 use Rattle.rdm_fixture.specs.Parameters.{IsField, SaysParameter, IsParameter, parameter_keys, own_pid, command_class, data_type, slots_of, shape_in, least_of, greatest_of, limit, low_in, high_in, start, can_reset}
 use Rattle.rdm_fixture.specs.Starting.{measured, SaysPresent, IsStarting}
 use Rattle.rdm_fixture.specs.Working.{CanWork, IsIdle}
-use Rattle.rdm_fixture_keys.specs.Wrong.{Part, FirstWrong, says_one, given, FirstOther, only, needed_as, needed, free, needed_number, free_number, free_text}
+use Rattle.rdm_fixture_keys.specs.Wrong.{Part, FirstWrong, says_one, given, FirstOther, only, needed_as, needed, free, needed_number, free_name, free_number, free_text}
+use Rattle.rdm_standard_names.specs.declared.kind.NameKind.TheVariants.{Categories, Prefixes, Units}
 
 -- ---- what lock states keep from being set
 
@@ -99,7 +100,7 @@ said_parts =
     only parameter_keys ∷ needed (codes "pid") own_pid wanted.Pid ∷ needed (codes "command_class") command_class wanted.CommandClass
     ∷ type_part ∷ given shape_in least_part ∷ given shape_in (λ shape. given (low_in shape) (greatest_part shape)) ∷ fields_part
     ∷ given shape_in (λ shape. given (low_in shape) (λ low. given (high_in shape low) (start_part shape low)))
-    ∷ free_number (codes "unit") 0 0xFF ∷ free_number (codes "prefix") 0 0xFF ∷ free (codes "factory_defaults") flag wanted.Boolean
+    ∷ free_name (codes "unit") Units ∷ free_name (codes "prefix") Prefixes ∷ free (codes "factory_defaults") flag wanted.Boolean
     ∷ free_text (codes "description") ∷ []
 
 -- what has to hold of what they say
@@ -174,7 +175,7 @@ rule_parts = only all_rule_keys ∷ (job_parts ++ (outcome ∷ one_outcome ∷ s
 abbrev pub unit_parts : ℕ → List Part
 unit_parts slots =
     needed_number (codes "device_model_id") 0 0xFFFF ∷ free_text (codes "device_model_description")
-    ∷ free_text (codes "manufacturer_label") ∷ free_text (codes "device_label") ∷ free_number (codes "product_category") 0 0xFFFF
+    ∷ free_text (codes "manufacturer_label") ∷ free_text (codes "device_label") ∷ free_name (codes "product_category") Categories
     ∷ free_number (codes "software_version_id") 0 0xFFFFFFFF ∷ free_text (codes "software_version_label")
     ∷ free_number (codes "dmx_start_address") 1 512
     ∷ entries (codes "personality") (IsPersonality slots) (FirstWrong (personality_parts slots)) 1 8 ∷ []

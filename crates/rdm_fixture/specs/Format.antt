@@ -17,7 +17,8 @@ use Rattle.rdm_fixture.specs.declared.fixture.Fixture.{Fixture}
 use Rattle.rdm_fixture.specs.declared.profile.locks.Locking.{Locking}
 use Rattle.rdm_fixture.specs.Outcomes.{IsOutcome}
 use Rattle.rdm_fixture_keys.specs.Entries.{IsPersonality, IsSlot, IsSensor, IsSelfTest, IsStatus, IsChoice}
-use Rattle.rdm_fixture_keys.specs.Values.{number, worker, text, language, uid}
+use Rattle.rdm_fixture_keys.specs.Values.{named, number, worker, text, language, uid}
+use Rattle.rdm_standard_names.specs.declared.kind.NameKind.TheVariants.{Categories}
 use Rattle.rdm_fixture.specs.Parameters.{IsParameter}
 use Rattle.rdm_fixture.specs.Starting.{IsStarting, counter_keys}
 use Rattle.rdm_fixture.specs.Working.{CanWork}
@@ -72,7 +73,7 @@ pub record IsUnit (slots : ℕ) (t : Members) (u : DeviceUnit) : Type 0 where
   pub model_text : May t (codes "device_model_description") [] text u.model_text
   pub maker_text : May t (codes "manufacturer_label") [] text u.maker_text
   pub label : May t (codes "device_label") [] text u.label
-  pub category : May t (codes "product_category") 0 (number 0 0xFFFF) u.category
+  pub category : May t (codes "product_category") 0 (named Categories) u.category
   pub software : May t (codes "software_version_id") 0 (number 0 0xFFFFFFFF) u.software
   pub software_text : May t (codes "software_version_label") [] text u.software_text
   pub start : May t (codes "dmx_start_address") 1 (number 1 512) u.start

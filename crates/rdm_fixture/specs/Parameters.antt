@@ -19,7 +19,8 @@ use Rattle.rdm_profile.specs.Standards.{follows}
 use Rattle.rdm_profile.specs.Values.{word_slots, long_slots}
 use Rattle.rdm_fixture_keys.specs.Keys.{must, may, Must, May, has_only}
 use Rattle.rdm_fixture.specs.Lists.{OfTable, Lists}
-use Rattle.rdm_fixture_keys.specs.Values.{number, integer_from, flag, text}
+use Rattle.rdm_fixture_keys.specs.Values.{named, number, integer_from, flag, text}
+use Rattle.rdm_standard_names.specs.declared.kind.NameKind.TheVariants.{Prefixes, Units}
 
 -- ---- its PID and its commands
 
@@ -204,8 +205,8 @@ pub record SaysParameter (t : Members) (d : ParameterDef) : Type 0 where
   pub high : high_in d.shape d.low t ≡ Some d.high
   pub fields : Lists t (codes "fields") (OfTable IsField) 0 8 d.fields.items
   pub start : Must t (codes "default_value") (start d.shape d.low d.high) d.start
-  pub unit : May t (codes "unit") 0 (number 0 0xFF) d.unit
-  pub prefix : May t (codes "prefix") 0 (number 0 0xFF) d.prefix
+  pub unit : May t (codes "unit") 0 (named Units) d.unit
+  pub prefix : May t (codes "prefix") 0 (named Prefixes) d.prefix
   pub resets : May t (codes "factory_defaults") (is_setting d.rights d.shape) flag d.resets
   pub name : May t (codes "description") [] text d.name
 

@@ -1,5 +1,5 @@
 -- What is put into a table that is written, and what TOML can write of it.
-use Rattle.std.specs.Prelude.{◌≡◌, ℕ, ◌≤◌, pos, true, IsTrue, List, [], ◌∷◌, Option, Some, None, codes}
+use Rattle.std.specs.Prelude.{◌≡◌, ℕ, ◌==◌, ◌≤◌, if◌then◌else◌, pos, true, IsTrue, List, [], ◌∷◌, Option, Some, None, codes}
 use Rattle.std.specs.Ordering.{nat_cmp, match_ordering}
 use Rattle.std.specs.Cmp.Lexicographic.{slice_cmp}
 use Rattle.std.specs.Str.Lossy.{utf8_lossy}
@@ -20,6 +20,9 @@ use Rattle.rdm_fixture.specs.Format.{IsUnit, root_keys}
 use Rattle.rdm_fixture_keys.specs.Keys.{has_only}
 use Rattle.rdm_fixture.specs.Starting.{IsCounted}
 use Rattle.rdm_fixture_keys.specs.Values.{number, signed}
+use Rattle.rdm_standard_names.specs.Names.{name_numbered}
+use Rattle.rdm_standard_names.specs.declared.kind.NameKind.{NameKind}
+use Rattle.rdm_standard_names.specs.declared.kind.NameKind.TheVariants.{Labels}
 use Rattle.toml.specs.Data.{Data, string, integer, boolean, depth, has_valid_dates, Members, no_members, member}
 
 -- the members with this one besides, in the order of the keys; if the key was there, it has the new value
@@ -37,6 +40,19 @@ with_field k (Some d) ms = with_member k d ms
 abbrev pub text_field : List ℕ → Option Data
 text_field [] = None
 text_field (c ∷ cs) = Some (string (utf8_lossy (c ∷ cs)))
+
+-- what is written of a number that has a name, or that has none
+abbrev pub name_or_number : Option (List ℕ) → ℕ → Data
+name_or_number (Some name) n = string name
+name_or_number None n = integer (pos n)
+
+-- what is written of a number that the standard may have a name for. E1.20, appendices A and C.
+abbrev pub named_field : NameKind → ℕ → Data
+named_field kind n = name_or_number (name_numbered kind n) n
+
+-- what is written of the label ID of a slot of this type: that of a primary slot may have a name
+abbrev pub label_field : ℕ → ℕ → Data
+label_field kind n = if kind == 0 then named_field Labels n else integer (pos n)
 
 -- The data nest at most n deep, and every date-time in them can be written.
 pub record IsPlain (n : ℕ) (d : Data) : Type 0 where

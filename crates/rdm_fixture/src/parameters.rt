@@ -22,8 +22,9 @@ use fields::fields;
 use limits::{greatest, least};
 pub(crate) use limits::{greatest_of, least_of};
 use rdm_device::{ParameterDef, Rights, Shape, can_start, follows, has_good_fields, is_addable};
-use rdm_fixture_keys::keys::{find, flag_or, integer_in, number_or, only, text_or_none};
+use rdm_fixture_keys::keys::{find, flag_or, integer_in, named_or, only, text_or_none};
 use rdm_fixture_keys::{Agreement, Refusal, Wanted};
+use rdm_standard_names::NameKind;
 use starting::start;
 use toml::{Table, Value};
 
@@ -78,8 +79,8 @@ fn parameter(table: &Table) -> Result<ParameterDef, Refusal>
     let high = greatest(table, shape, low)?;
     let fields = fields(table)?;
     let start = start(table, shape, low, high)?;
-    let unit = number_or(table, "unit", 0, 0, 0xFF)? as u8;
-    let prefix = number_or(table, "prefix", 0, 0, 0xFF)? as u8;
+    let unit = named_or(table, "unit", NameKind::Units, 0)? as u8;
+    let prefix = named_or(table, "prefix", NameKind::Prefixes, 0)? as u8;
     let resets = flag_or(table, "factory_defaults", is_setting(rights, shape))?;
     let name = text_or_none(table, "description")?;
     Ok(ParameterDef {

@@ -11,9 +11,10 @@ ghost use Rattle.rdm_fixture_keys.specs.Wrong.{FirstWrong};
 
 use crate::lists::list;
 use rdm_device::Unit;
-use rdm_fixture_keys::keys::{find, number, number_or, only, text_or_none};
+use rdm_fixture_keys::keys::{find, named_or, number, number_or, only, text_or_none};
 use rdm_fixture_keys::{Refusal, Section, Wanted};
 use rdm_frame::standard::{MOST_DMX_SLOTS, MOST_SUB_DEVICES};
+use rdm_standard_names::NameKind;
 use toml::{Table, Value};
 
 /// How many slots DMX512 has.
@@ -49,7 +50,7 @@ pub(crate) fn unit(table: &Table, slots: u16) -> Result<Unit, Refusal>
         model_text: text_or_none(table, "device_model_description")?,
         maker_text: text_or_none(table, "manufacturer_label")?,
         label: text_or_none(table, "device_label")?,
-        category: number_or(table, "product_category", 0, 0, 0xFFFF)? as u16,
+        category: named_or(table, "product_category", NameKind::Categories, 0)? as u16,
         software: number_or(table, "software_version_id", 0, 0, 0xFFFF_FFFF)?,
         software_text: text_or_none(table, "software_version_label")?,
         start: number_or(table, "dmx_start_address", 1, 1, DMX_SLOTS)? as u16,

@@ -1,6 +1,6 @@
 -- Which table is an entry of a list: a personality, a slot, a sensor, a self test, a status ID or the name of a choice.
-use Rattle.std.specs.Prelude.{ℕ, false, pos, neg_ℤ, IsTrue, List, [], ◌∷◌, codes}
-use Rattle.toml.specs.Data.{Members}
+use Rattle.std.specs.Prelude.{ℕ, ◌==◌, false, if◌then◌else◌, pos, neg_ℤ, IsTrue, List, [], ◌∷◌, Option, codes}
+use Rattle.toml.specs.Data.{Members, get_member}
 use Rattle.rdm_profile.specs.declared.profile.choices.ChoiceName.{ChoiceName}
 use Rattle.rdm_profile.specs.declared.profile.Personality.{Personality}
 use Rattle.rdm_profile.specs.declared.profile.SelfTest.{SelfTest}
@@ -8,9 +8,10 @@ use Rattle.rdm_profile.specs.declared.profile.SensorDef.{SensorDef}
 use Rattle.rdm_profile.specs.declared.profile.Slot.{Slot}
 use Rattle.rdm_profile.specs.declared.profile.StatusText.{StatusText}
 use Rattle.rdm_fixture_keys.specs.declared.refusal.Wanted.TheVariants as wanted
-use Rattle.rdm_fixture_keys.specs.Keys.{Must, May, has_only}
-use Rattle.rdm_fixture_keys.specs.Values.{number, signed, text, flag}
-use Rattle.rdm_fixture_keys.specs.Wrong.{Part, only, needed_number, free, free_number, free_signed, free_text}
+use Rattle.rdm_fixture_keys.specs.Keys.{Must, May, has_only, may}
+use Rattle.rdm_fixture_keys.specs.Values.{number, named, label_id, signed, text, flag}
+use Rattle.rdm_fixture_keys.specs.Wrong.{Part, given, only, needed, needed_name, needed_number, free, free_name, free_number, free_signed, free_text}
+use Rattle.rdm_standard_names.specs.declared.kind.NameKind.TheVariants.{Sensors, Units, Prefixes, Slots, Labels}
 
 -- ---- what the entries say
 
@@ -29,8 +30,8 @@ slot_keys = codes "type" ∷ codes "label_id" ∷ codes "default_value" ∷ code
 -- Sections 10.6.4 to 10.6.6.
 pub record IsSlot (t : Members) (s : Slot) : Type 0 where
   pub keys : IsTrue (has_only slot_keys t)
-  pub kind : May t (codes "type") 0 (number 0 0xFF) s.kind
-  pub label : Must t (codes "label_id") (number 0 0xFFFF) s.label
+  pub kind : May t (codes "type") 0 (named Slots) s.kind
+  pub label : Must t (codes "label_id") (label_id s.kind) s.label
   pub value : May t (codes "default_value") 0 (number 0 0xFF) s.value
   pub name : May t (codes "description") [] text s.name
 
@@ -43,9 +44,9 @@ sensor_keys =
 -- What it measures is no part of what it is. Sections 10.7.1 and 10.7.2.
 pub record IsSensor (t : Members) (s : SensorDef) : Type 0 where
   pub keys : IsTrue (has_only sensor_keys t)
-  pub kind : Must t (codes "type") (number 0 0xFF) s.kind
-  pub unit : May t (codes "unit") 0 (number 0 0xFF) s.unit
-  pub prefix : May t (codes "prefix") 0 (number 0 0xFF) s.prefix
+  pub kind : Must t (codes "type") (named Sensors) s.kind
+  pub unit : May t (codes "unit") 0 (named Units) s.unit
+  pub prefix : May t (codes "prefix") 0 (named Prefixes) s.prefix
   pub low : May t (codes "range_minimum_value") (neg_ℤ (pos 32768)) signed s.low
   pub high : May t (codes "range_maximum_value") (pos 32767) signed s.high
   pub normal_low : May t (codes "normal_minimum_value") (neg_ℤ (pos 32768)) signed s.normal_low
@@ -88,14 +89,21 @@ pub record IsChoice (t : Members) (c : ChoiceName) : Type 0 where
 abbrev pub personality_parts : ℕ → List Part
 personality_parts slots = only personality_keys ∷ needed_number (codes "dmx_footprint") 0 slots ∷ free_text (codes "description") ∷ []
 
+-- the type of a slot, which says what its label ID may be
+abbrev pub slot_kind : Members → Option ℕ
+slot_kind t = may 0 (named Slots) (get_member (codes "type") t)
+
+abbrev pub label_part : ℕ → Part
+label_part kind = needed (codes "label_id") (label_id kind) (if kind == 0 then wanted.Named Labels else wanted.Number (pos 0) (pos 0xFFFF))
+
 abbrev pub slot_parts : List Part
 slot_parts =
-    only slot_keys ∷ needed_number (codes "label_id") 0 0xFFFF ∷ free_number (codes "type") 0 0xFF
+    only slot_keys ∷ free_name (codes "type") Slots ∷ given slot_kind label_part
     ∷ free_number (codes "default_value") 0 0xFF ∷ free_text (codes "description") ∷ []
 
 abbrev pub sensor_parts : List Part
 sensor_parts =
-    only sensor_keys ∷ needed_number (codes "type") 0 0xFF ∷ free_number (codes "unit") 0 0xFF ∷ free_number (codes "prefix") 0 0xFF
+    only sensor_keys ∷ needed_name (codes "type") Sensors ∷ free_name (codes "unit") Units ∷ free_name (codes "prefix") Prefixes
     ∷ free_signed (codes "range_minimum_value") ∷ free_signed (codes "range_maximum_value")
     ∷ free_signed (codes "normal_minimum_value") ∷ free_signed (codes "normal_maximum_value")
     ∷ free_number (codes "recorded_value_support") 0 0xFF ∷ free_text (codes "description")

@@ -7,6 +7,9 @@ use Rattle.rdm_profile.specs.declared.profile.workers.Worker.TheVariants.{First,
 use Rattle.rdm_frame.specs.declared.uid.Uid.{Uid}
 use Rattle.rdm_frame.specs.Addressing.{is_broadcast}
 use Rattle.rdm_frame.specs.DigitReading.{uid_in}
+use Rattle.rdm_standard_names.specs.Names.{greatest_of, number_named}
+use Rattle.rdm_standard_names.specs.declared.kind.NameKind.{NameKind}
+use Rattle.rdm_standard_names.specs.declared.kind.NameKind.TheVariants.{Labels}
 use Rattle.toml.specs.Data.{Data, string, integer, boolean}
 
 -- whether the number is in a range
@@ -17,6 +20,17 @@ within least most n = nat_le least n && nat_le n most
 abbrev pub number : ℕ → ℕ → Data → Option ℕ
 number least most (integer (pos n)) = if within least most n then Some n else None
 number least most _ = None
+
+-- the number of a thing that the standard has a name for: by that name, or as it is. E1.20, appendices A and C.
+abbrev pub named : NameKind → Data → Option ℕ
+named kind (string s) = number_named kind s
+named kind d = number 0 (greatest_of kind) d
+
+-- The label ID of a slot of this type. That of a primary slot says what the slot is for, and has a name; that of a secondary slot is the
+-- number of the slot that it refines. E1.20 section 10.6.4, tables C-1 and C-2.
+abbrev pub label_id : ℕ → Data → Option ℕ
+label_id kind (string s) = if kind == 0 then number_named Labels s else None
+label_id kind d = number 0 0xFFFF d
 
 -- the worker of a number
 abbrev pub numbered : ℕ → Worker

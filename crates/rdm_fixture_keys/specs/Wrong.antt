@@ -4,10 +4,11 @@ use Rattle.std.specs.List.{list_any}
 use Rattle.std.specs.Str.{bytes_eq}
 use Rattle.toml.specs.Data.{Data, Members, no_members, member, get_member}
 use Rattle.rdm_fixture_keys.specs.declared.refusal.Wanted.{Wanted}
-use Rattle.rdm_fixture_keys.specs.declared.refusal.Wanted.TheVariants.{Key, NoSuchKey, Number, Text}
+use Rattle.rdm_fixture_keys.specs.declared.refusal.Wanted.TheVariants.{Key, Named, NoSuchKey, Number, Text}
 use Rattle.rdm_fixture_keys.specs.Faults.{Fault, fault}
 use Rattle.rdm_fixture_keys.specs.Keys.{must, has_only}
-use Rattle.rdm_fixture_keys.specs.Values.{number, signed, text}
+use Rattle.rdm_fixture_keys.specs.Values.{named, number, signed, text}
+use Rattle.rdm_standard_names.specs.declared.kind.NameKind.{NameKind}
 
 -- A part of a table: when it is right, and of which fault it is told that it isn't.
 pub record Part : Type 1 where
@@ -85,6 +86,12 @@ needed_number key least most = needed key (number least most) (Number (pos least
 
 abbrev pub free_number : List ℕ → ℕ → ℕ → Part
 free_number key least most = free key (number least most) (Number (pos least) (pos most))
+
+abbrev pub needed_name : List ℕ → NameKind → Part
+needed_name key kind = needed key (named kind) (Named kind)
+
+abbrev pub free_name : List ℕ → NameKind → Part
+free_name key kind = free key (named kind) (Named kind)
 
 abbrev pub free_signed : List ℕ → Part
 free_signed key = free key signed (Number (neg_ℤ (pos 32768)) (pos 32767))

@@ -1,15 +1,20 @@
 //! The entries of the lists: personalities, slots, sensors, self tests, status IDs, and the names of choices. Each is a table.
 
-ghost use Rattle.std.specs.Prelude.{IfErr};
+ghost use Rattle.std.specs.Prelude.{◌≡◌, ◌≤◌, IfErr, IfOk, codes};
+ghost use Rattle.std.specs.Result.{result_ok};
+ghost use Rattle.toml.specs.Data.{get_member};
 ghost use Rattle.toml.specs.View.{table_view};
-ghost use Rattle.rdm_fixture_keys.specs.Entries.{IsPersonality, IsSlot, IsSensor, IsSelfTest, IsStatus, IsChoice, personality_parts, slot_parts, sensor_parts, self_test_parts, status_parts, choice_parts};
+ghost use Rattle.rdm_fixture_keys.specs.Entries.{IsPersonality, IsSlot, IsSensor, IsSelfTest, IsStatus, IsChoice, personality_parts, label_part, slot_parts, sensor_parts, self_test_parts, status_parts, choice_parts};
 ghost use Rattle.rdm_fixture_keys.specs.Faults.{told};
-ghost use Rattle.rdm_fixture_keys.specs.Keys.{Reads};
+ghost use Rattle.rdm_fixture_keys.specs.Keys.{Reads, must};
+ghost use Rattle.rdm_fixture_keys.specs.Values.{label_id};
 ghost use Rattle.rdm_fixture_keys.specs.Wrong.{FirstWrong};
 
 use crate::Refusal;
-use crate::keys::{flag_or, number, number_or, only, signed_or, text_or_none};
+use crate::keys::{flag_or, named, named_or, number, number_or, only, signed_or, text_or_none};
 use rdm_device::{ChoiceName, Personality, SelfTest, SensorDef, Slot, StatusText};
+use rdm_standard_names::NameKind;
+use rdm_standard_names::slots::PRIMARY_SLOT;
 use toml::Table;
 
 /// A personality, which has at most this many slots.
@@ -30,12 +35,26 @@ pub fn slot(table: &Table) -> Result<Slot, Refusal>
     ensures wrong { IfErr result (λ e. FirstWrong slot_parts (table_view table.now) (told e)) }
 {
     only(table, &["type", "label_id", "default_value", "description"])?;
+    let kind = named_or(table, "type", NameKind::Slots, 0)? as u8;
     Ok(Slot {
-        label: number(table, "label_id", 0, 0xFFFF)? as u16,
-        kind: number_or(table, "type", 0, 0, 0xFF)? as u8,
+        kind,
+        label: slot_label(table, kind)? as u16,
         value: number_or(table, "default_value", 0, 0, 0xFF)? as u8,
         name: text_or_none(table, "description")?,
     })
+}
+
+/// The label ID of a slot of this type.
+fn slot_label(table: &Table, kind: u8) -> Result<u32, Refusal>
+    ensures value { result_ok result ≡ must (label_id kind) (get_member (codes "label_id") (table_view table.now)) }
+    ensures within { IfOk result (λ n. n ≤ 0xFFFF) }
+    ensures wrong { IfErr result (λ e. (label_part kind).Wrong (table_view table.now) (told e)) }
+{
+    if kind == PRIMARY_SLOT {
+        named(table, "label_id", NameKind::Labels)
+    } else {
+        number(table, "label_id", 0, 0xFFFF)
+    }
 }
 
 /// A sensor. What it measures is no part of that.
@@ -60,9 +79,9 @@ pub fn sensor(table: &Table) -> Result<SensorDef, Refusal>
         ],
     )?;
     Ok(SensorDef {
-        kind: number(table, "type", 0, 0xFF)? as u8,
-        unit: number_or(table, "unit", 0, 0, 0xFF)? as u8,
-        prefix: number_or(table, "prefix", 0, 0, 0xFF)? as u8,
+        kind: named(table, "type", NameKind::Sensors)? as u8,
+        unit: named_or(table, "unit", NameKind::Units, 0)? as u8,
+        prefix: named_or(table, "prefix", NameKind::Prefixes, 0)? as u8,
         low: signed_or(table, "range_minimum_value", -32768)?,
         high: signed_or(table, "range_maximum_value", 32767)?,
         normal_low: signed_or(table, "normal_minimum_value", -32768)?,

@@ -11,9 +11,11 @@ ghost use Rattle.rdm_fixture_keys.specs.Keys.{must, may, has_only};
 ghost use Rattle.rdm_fixture_keys.specs.Faults.{fault, told};
 ghost use Rattle.rdm_fixture_keys.specs.Wrong as parts;
 ghost use Rattle.rdm_fixture_keys.specs.declared.refusal.Wanted.TheVariants as wanted;
+ghost use Rattle.rdm_standard_names.specs.Names.{greatest_of};
 
 use crate::refusal::{Refusal, Wanted};
 use rdm_frame::{Text, Uid};
+use rdm_standard_names::NameKind;
 use toml::{Table, Value};
 
 /// What the key holds.
@@ -106,6 +108,56 @@ pub fn integer_in(value: &Value, least: u32, most: u32) -> Option<u32>
     }
     None
 }
+
+// ---- things that the standard has names for
+
+/// The number that a key which has to be there holds, or names.
+pub fn named(table: &Table, key: &str, kind: NameKind) -> Result<u32, Refusal>
+    ensures value { result_ok result ≡ must (says.named kind) (get_member key.now (table_view table.now)) }
+    ensures within { IfOk result (λ n. n ≤ greatest_of kind) }
+    ensures wrong { IfErr result (λ e. (parts.needed_name key.now kind).Wrong (table_view table.now) (told e)) }
+{
+    match find(table, key) {
+        Some(value) => number_named(value, key, kind),
+        None => Err(Refusal::at(key, Wanted::Key)),
+    }
+}
+
+/// The number that a key which may be left out holds, or names.
+pub fn named_or(table: &Table, key: &str, kind: NameKind, default: u32) -> Result<u32, Refusal>
+    requires { default ≤ greatest_of kind }
+    ensures value { result_ok result ≡ may default (says.named kind) (get_member key.now (table_view table.now)) }
+    ensures within { IfOk result (λ n. n ≤ greatest_of kind) }
+    ensures wrong { IfErr result (λ e. (parts.free_name key.now kind).Wrong (table_view table.now) (told e)) }
+{
+    match find(table, key) {
+        Some(value) => number_named(value, key, kind),
+        None => Ok(default),
+    }
+}
+
+fn number_named(value: &Value, key: &str, kind: NameKind) -> Result<u32, Refusal>
+    ensures value { result_ok result ≡ says.named kind (view value.now) }
+    ensures within { IfOk result (λ n. n ≤ greatest_of kind) }
+    ensures wrong { IfErr result (λ e. told e ≡ fault key.now (wanted.Named kind)) }
+{
+    match number_or_name(value, kind) {
+        Some(number) => Ok(number),
+        None => Err(Refusal::at(key, Wanted::Named(kind))),
+    }
+}
+
+fn number_or_name(value: &Value, kind: NameKind) -> Option<u32>
+    ensures value { result ≡ says.named kind (view value.now) }
+    ensures within { IfSome result (λ n. n ≤ greatest_of kind) }
+{
+    match value {
+        Value::String(name) => kind.number(name),
+        _ => integer_in(value, 0, kind.greatest()),
+    }
+}
+
+// ---- signed numbers
 
 /// The signed number of 16 bits of a key that may be left out.
 pub fn signed_or(table: &Table, key: &str, default: i16) -> Result<i16, Refusal>

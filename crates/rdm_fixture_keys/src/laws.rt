@@ -4,12 +4,14 @@ ghost use Rattle.std.specs.Prelude.{◌≡◌, ◌↔◌, IsTrue};
 ghost use Rattle.rdm_fixture_keys.specs.Refusals.{IsSameEntry, IsSameRefusal};
 
 use crate::{Agreement, Entry, Refusal, Section, Wanted};
+use rdm_standard_names::name_kinds_are_equal_by_value;
 
 /// Two values of `Wanted` are equal by `==` exactly when they are the same, bounds included.
 pub fn wanteds_are_equal_by_value()
     ensures { (a b : Wanted) → IsTrue (⟦<Wanted as PartialEq>⟧.eq a b) ↔ (a ≡ b) }
 {
     agreements_are_equal_by_value();
+    name_kinds_are_equal_by_value();
 }
 
 /// Two values of `Agreement` are equal by `==` exactly when they are the same.

@@ -1,6 +1,7 @@
 //! What a refusal says to people.
 
 use crate::{Agreement, Refusal, Section, Wanted};
+use rdm_standard_names::NameKind;
 use std::fmt;
 
 impl fmt::Display for Refusal {
@@ -44,6 +45,7 @@ fn write_wanted<W: fmt::Write>(
         Wanted::List { least, most } => {
             write!(f, "`{key}` must be a list of {least} to {most} entries")
         }
+        Wanted::Named(kind) => write_named(f, key, kind),
         Wanted::Outcome => f.write_str("expected one of `done`, `reading` or `severity`"),
         _ => {
             let fault = fault_of(wanted);
@@ -52,12 +54,37 @@ fn write_wanted<W: fmt::Write>(
     }
 }
 
-/// What the greatest number of a key is, where that depends on the rest of the file.
+/// What else the number of a key depends on: other keys of the file.
 fn limit_of(key: &str, most: i64) -> &'static str {
     if key == "dmx_footprint" && most < 512 {
         ", the number of [[slot]] tables plus `more_slots`"
+    } else if key == "label_id" {
+        ", the slot that this secondary slot refines"
     } else {
         ""
+    }
+}
+
+/// That a name of the standard was wanted, or its number.
+fn write_named<W: fmt::Write>(f: &mut fmt::Formatter<W>, key: &str, kind: NameKind) -> fmt::Result {
+    let most = kind.greatest();
+    let example = example_of(kind);
+    let word = kind.word();
+    write!(
+        f,
+        "`{key}` must be an integer from 0 to {most}, or a name such as \"{example}\" (felosumay fixture --names {word} lists them)"
+    )
+}
+
+/// One of the names of a kind.
+fn example_of(kind: NameKind) -> &'static str {
+    match kind {
+        NameKind::Sensors => "temperature",
+        NameKind::Units => "V DC",
+        NameKind::Prefixes => "k",
+        NameKind::Categories => "fixture, moving yoke",
+        NameKind::Slots => "fine",
+        NameKind::Labels => "pan",
     }
 }
 

@@ -5,6 +5,7 @@ ghost use Rattle.rdm_fixture_keys.specs.Faults as says;
 ghost use Rattle.rdm_fixture_keys.specs.Faults.{shown, kept, fault, in_entry, in_section, told};
 
 use arrayvec::ArrayString;
+use rdm_standard_names::NameKind;
 
 /// The name of a key as it is shown: one of more than 40 bytes is cut, and ends in `..`. A control character is `?` in it.
 pub type Name = ArrayString<40>;
@@ -18,6 +19,8 @@ pub enum Wanted {
     NoSuchKey,
     /// An integer of this range.
     Number { least: i64, most: i64 },
+    /// A name of the standard, or its number.
+    Named(NameKind),
     /// A string of at most 32 printable ASCII characters.
     Text,
     /// A UID that isn't a broadcast.

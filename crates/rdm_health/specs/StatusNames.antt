@@ -1,6 +1,7 @@
 -- What status messages name, by the tables of the standard.
 use Rattle.std.specs.Prelude.{ℕ, List, [], ◌∷◌, codes, Option}
 use Rattle.rdm_health.specs.SensorNames.{named}
+use Rattle.rdm_standard_names.specs.Names.{slot_labels}
 
 -- E1.20 table B-2: the texts of status IDs, with `%d`, `%x` and `%L` for their values
 abbrev pub status_texts : List (ℕ × List ℕ)
@@ -44,53 +45,6 @@ status_texts =
     (0x0081, codes "DMX512 null START code received, now dropped") ∷
     (0x0082, codes "DMX512 null START code timing or packet error") ∷
     (0x0083, codes "DMX512 null START code received OK") ∷ []
-
--- E1.20 table C-2: what a primary slot controls
-abbrev pub slot_labels : List (ℕ × List ℕ)
-slot_labels =
-    (0x0001, codes "intensity") ∷
-    (0x0002, codes "intensity master") ∷
-    (0x0101, codes "pan") ∷
-    (0x0102, codes "tilt") ∷
-    (0x0201, codes "color wheel") ∷
-    (0x0202, codes "color sub cyan") ∷
-    (0x0203, codes "color sub yellow") ∷
-    (0x0204, codes "color sub magenta") ∷
-    (0x0205, codes "color add red") ∷
-    (0x0206, codes "color add green") ∷
-    (0x0207, codes "color add blue") ∷
-    (0x0208, codes "color correction") ∷
-    (0x0209, codes "color scroll") ∷
-    (0x0210, codes "color semaphore") ∷
-    (0x0211, codes "color add amber") ∷
-    (0x0212, codes "color add white") ∷
-    (0x0213, codes "color add warm white") ∷
-    (0x0214, codes "color add cool white") ∷
-    (0x0215, codes "color sub UV") ∷
-    (0x0216, codes "color hue") ∷
-    (0x0217, codes "color saturation") ∷
-    (0x0301, codes "static gobo wheel") ∷
-    (0x0302, codes "roto gobo wheel") ∷
-    (0x0303, codes "prism wheel") ∷
-    (0x0304, codes "effects wheel") ∷
-    (0x0401, codes "beam size iris") ∷
-    (0x0402, codes "edge") ∷
-    (0x0403, codes "frost") ∷
-    (0x0404, codes "strobe") ∷
-    (0x0405, codes "zoom") ∷
-    (0x0406, codes "framing shutter") ∷
-    (0x0407, codes "shutter rotate") ∷
-    (0x0408, codes "douser") ∷
-    (0x0409, codes "barn door") ∷
-    (0x0501, codes "lamp control") ∷
-    (0x0502, codes "fixture control") ∷
-    (0x0503, codes "fixture speed") ∷
-    (0x0504, codes "macro") ∷
-    (0x0505, codes "power control") ∷
-    (0x0506, codes "fan control") ∷
-    (0x0507, codes "heater control") ∷
-    (0x0508, codes "fountain control") ∷
-    (0xFFFF, codes "undefined") ∷ []
 
 -- E1.20 table A-8
 abbrev pub lamp_states : List (ℕ × List ℕ)

@@ -1,5 +1,6 @@
 -- The names of the standard, each with its number: E1.20, appendices A and C.
-use Rattle.std.specs.Prelude.{ℕ, List, [], ◌∷◌, codes}
+use Rattle.std.specs.Prelude.{ℕ, ◌==◌, Bool, true, false, if◌then◌else◌, List, [], ◌∷◌, Option, codes, find, option_map}
+use Rattle.rdm_standard_names.specs.Tables.{number_like, number_of}
 use Rattle.rdm_standard_names.specs.declared.kind.NameKind.{NameKind}
 use Rattle.rdm_standard_names.specs.declared.kind.NameKind.TheVariants.{Sensors, Units, Prefixes, Categories, Slots, Labels}
 
@@ -232,3 +233,32 @@ names_of Prefixes = prefixes
 names_of Categories = categories
 names_of Slots = slot_types
 names_of Labels = slot_labels
+
+-- Whether the names are symbols, in which m and M differ.
+unfoldable pub are_symbols : NameKind → Bool
+are_symbols Units = true
+are_symbols Prefixes = true
+are_symbols _ = false
+
+-- The number with this name. A symbol is read letter for letter, other names in upper or lower case.
+abbrev pub number_named : NameKind → List ℕ → Option ℕ
+number_named kind name = if are_symbols kind then number_of (names_of kind) name else number_like (names_of kind) name
+
+-- the name of a number
+abbrev pub name_numbered : NameKind → ℕ → Option (List ℕ)
+name_numbered kind number = option_map (λ row. row.1) (find (λ row. row.0 == number) (names_of kind))
+
+-- the greatest number of the field that holds one: categories and label IDs take two bytes, all others one
+abbrev pub greatest_of : NameKind → ℕ
+greatest_of Categories = 0xFFFF
+greatest_of Labels = 0xFFFF
+greatest_of _ = 0xFF
+
+-- the word by which `felosumay fixture --names` asks for a kind
+unfoldable pub word_of : NameKind → List ℕ
+word_of Sensors = codes "sensors"
+word_of Units = codes "units"
+word_of Prefixes = codes "prefixes"
+word_of Categories = codes "categories"
+word_of Slots = codes "slots"
+word_of Labels = codes "labels"

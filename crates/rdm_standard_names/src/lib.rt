@@ -9,6 +9,6 @@ pub mod sensors;
 pub mod slots;
 mod table;
 
-pub use kind::NameKind;
+pub use kind::{KIND_WORDS, NameKind};
 pub use laws::name_kinds_are_equal_by_value;
 pub use table::Table;

@@ -2,6 +2,9 @@
 
 use crate::Table;
 
+/// The type of a slot that refines no other (table C-1).
+pub const PRIMARY_SLOT: u8 = 0;
+
 /// The types of slots (table C-1).
 pub const SLOT_TYPES: Table = Table(&[
     (0x00, "primary"),

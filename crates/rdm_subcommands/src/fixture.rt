@@ -1,4 +1,4 @@
-//! `felosumay fixture`: what a fixture's file describes.
+//! `felosumay fixture`: what a fixture's file describes, and the names that it can have.
 
 use clap::ArgMatches;
 use rdm_fixture::Fixture;
@@ -6,13 +6,40 @@ use rdm_host::fault::Fault;
 use rdm_host::fixture::FixtureFile;
 use rdm_host::host::Host;
 use rdm_host::source::{Source, print};
+use rdm_standard_names::NameKind;
 use rdm_words::put_fixture;
+use std::alloc::AllocError;
+use std::fmt::Write;
 
-/// Reads the fixture file that is named, and prints what it describes.
+/// Reads the fixture file that is named, and prints what it describes; or lists the names of the kind that is named.
 pub fn run<'a, H: Host>(rt: H, asked: &ArgMatches<'a>) -> Result<(), Fault<'a>> {
+    if let Some(kind) = asked
+        .get_str(rdm_usage::NAMES)
+        .and_then(NameKind::with_word)
+    {
+        return print_names(rt, kind);
+    }
     let source = Source::named(asked.get_str(rdm_usage::INPUT));
     let fixture = FixtureFile::read(rt, source)?.fixture(rt)?;
     print_fixture(rt, &fixture)
+}
+
+/// Prints the names of a kind, each behind its number, as both can stand in a fixture's file.
+fn print_names<'a, H: Host>(rt: H, kind: NameKind) -> Result<(), Fault<'a>> {
+    let mut text = String::new(rt.alloc());
+    for (number, name) in kind.table().0 {
+        put_name(&mut text, kind, *number, name)?;
+    }
+    print(rt, text.as_bytes())
+}
+
+/// A number of the width of its field, and its name in quotes.
+fn put_name(text: &mut String, kind: NameKind, number: u32, name: &str) -> Result<(), AllocError> {
+    if kind.greatest() > 0xFF {
+        writeln!(text, "0x{number:04X}  \"{name}\"")
+    } else {
+        writeln!(text, "0x{number:02X}  \"{name}\"")
+    }
 }
 
 /// Prints what a fixture is.

@@ -41,6 +41,8 @@ pub(crate) enum Form {
     Number32(u32, u32),
     /// `--ID WORD`, one of these.
     OneOf(&'static [&'static str]),
+    /// The same, in place of all other arguments. The help of the option has the words.
+    Alone(&'static [&'static str]),
 }
 
 /// Where arguments may stand.
@@ -129,6 +131,10 @@ fn named<'a>(alloc: Global, argument: &Argument) -> Arg<'a> {
             u32
         ).range(i64::from(least)..=i64::from(greatest))),
         Form::OneOf(words) => option(alloc, argument).value_parser(words),
+        Form::Alone(words) => option(alloc, argument)
+            .value_parser(words)
+            .hide_possible_values(true)
+            .exclusive(true),
         _ => option(alloc, argument),
     }
 }

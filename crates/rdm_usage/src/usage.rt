@@ -5,6 +5,7 @@ use crate::line::OF_TEST;
 use clap::error::ErrorKind;
 use clap::{ArgMatches, Command, Error};
 use rdm_frame::standard::MOST_SUB_DEVICES;
+use rdm_standard_names::KIND_WORDS;
 use std::alloc::{AllocError, Global};
 
 /// The option that names a fixture file.
@@ -35,6 +36,8 @@ pub const ALL_BITS: &str = "all-bits";
 pub const FIRST: &str = "first";
 /// Of a collision rubbish is on the line.
 pub const RUBBISH: &str = "rubbish";
+/// The option for a kind of things of which the names are listed.
+pub const NAMES: &str = "names";
 /// The option that names the port of an interface.
 pub const PORT: &str = "port";
 /// The option that names a file for the trace of a line; and its format, unless something else is asked for.
@@ -202,12 +205,20 @@ const OF_CHECK: &[Argument] = &[
 ];
 
 /// What `felosumay fixture` takes.
-const OF_FIXTURE: &[Argument] = &[Argument {
-    id: INPUT,
-    form: Form::RequiredPlace,
-    value: "FILE",
-    help: "The fixture file; standard input if -",
-}];
+const OF_FIXTURE: &[Argument] = &[
+    Argument {
+        id: INPUT,
+        form: Form::RequiredPlace,
+        value: "FILE",
+        help: "The fixture file; standard input if -",
+    },
+    Argument {
+        id: NAMES,
+        form: Form::Alone(&KIND_WORDS),
+        value: "KIND",
+        help: "Instead list the names that a fixture file can have for\nits sensors, units, prefixes, categories, slots or labels",
+    },
+];
 
 /// What `felosumay parameters` takes.
 const OF_PARAMETERS: &[Argument] = &[

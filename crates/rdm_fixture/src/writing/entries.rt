@@ -8,8 +8,11 @@ ghost use Rattle.rdm_fixture.specs.Format.{IsLocking, locked_pid};
 ghost use Rattle.rdm_fixture.specs.Lists.{ListAt};
 ghost use Rattle.rdm_fixture.specs.Writing.{IsPlain, locking_of};
 
-use super::fields::{ToEntry, put, put_byte, put_long, put_text, put_word};
+use super::fields::{
+    ToEntry, put, put_byte, put_label, put_long, put_named_byte, put_text, put_word,
+};
 use rdm_device::{ChoiceName, Lock, Personality, SelfTest, Slot, StatusText};
+use rdm_standard_names::NameKind;
 use std::alloc::{AllocError, Global};
 use toml::{Table, Value};
 
@@ -37,8 +40,8 @@ impl ToEntry for Slot {
 
     fn to_entry(&self, alloc: Global) -> Result<Table, AllocError> {
         let mut table = Table::new(alloc);
-        put_byte(alloc, &mut table, "type", self.kind)?;
-        put_word(alloc, &mut table, "label_id", self.label)?;
+        put_named_byte(alloc, &mut table, "type", NameKind::Slots, self.kind)?;
+        put_label(alloc, &mut table, self.kind, self.label)?;
         put_byte(alloc, &mut table, "default_value", self.value)?;
         put_text(alloc, &mut table, "description", &self.name)?;
         Ok(table)

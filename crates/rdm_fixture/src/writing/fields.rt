@@ -1,6 +1,6 @@
 //! What is put into a table, key by key.
 
-ghost use Rattle.std.specs.Prelude.{◌≡◌, ◌≤◌, ◌+◌, ℕ, pos, [], Some, IsOk, IfOk, IfSome, IsTrue, All, length, option_map};
+ghost use Rattle.std.specs.Prelude.{◌≡◌, ◌≤◌, ◌+◌, ℕ, pos, [], Some, IsOk, IfOk, IfSome, IsTrue, All, length, option_map, codes};
 ghost use Rattle.toml.specs.Data.{Members, table as table_data, string, integer, boolean};
 ghost use Rattle.toml.specs.View.{view, table_view};
 ghost use Rattle.rdm_profile.specs.Workers.{worker_number};
@@ -8,10 +8,13 @@ ghost use Rattle.rdm_fixture.specs.Describable.{are_printable};
 ghost use Rattle.rdm_fixture_keys.specs.Keys.{may};
 ghost use Rattle.rdm_fixture.specs.Lists.{OfTable, ListAt};
 ghost use Rattle.rdm_fixture_keys.specs.Values as says;
-ghost use Rattle.rdm_fixture.specs.Writing.{with_field, text_field, IsPlain};
+ghost use Rattle.rdm_fixture.specs.Writing.{with_field, text_field, named_field, label_field, IsPlain};
+ghost use Rattle.rdm_standard_names.specs.Names.{greatest_of};
 
 use rdm_device::Worker;
 use rdm_frame::Text;
+use rdm_standard_names::NameKind;
+use rdm_standard_names::slots::PRIMARY_SLOT;
 use std::alloc::{AllocError, Global};
 use toml::{Table, Value};
 
@@ -82,6 +85,69 @@ pub(super) fn put_long(
     ensures says { says.number 0 0xFFFFFFFF (integer (pos number)) ≡ Some number }
 {
     put(alloc, table, key, Some(Value::from(number)))
+}
+
+/// Puts the name of a number of 8 bits at the key, or the number if the standard has no name for it.
+#[tactic(auto, using(crate::proofs::WrittenNames::byte_says))]
+pub(super) fn put_named_byte(
+    alloc: Global,
+    table: &mut Table,
+    key: &str,
+    kind: NameKind,
+    number: u8,
+) -> Result<(), AllocError>
+    requires { greatest_of kind ≡ 0xFF }
+    ensures put { IsOk result → table_view table.new ≡ with_field key.now (Some (named_field kind number)) (table_view table.old) }
+    ensures says { says.named kind (named_field kind number) ≡ Some number }
+{
+    let value = name_or_number(alloc, kind, u32::from(number))?;
+    put(alloc, table, key, Some(value))
+}
+
+/// The same of a number of 16 bits.
+#[tactic(auto, using(crate::proofs::WrittenNames::word_says))]
+pub(super) fn put_named_word(
+    alloc: Global,
+    table: &mut Table,
+    key: &str,
+    kind: NameKind,
+    number: u16,
+) -> Result<(), AllocError>
+    requires { greatest_of kind ≡ 0xFFFF }
+    ensures put { IsOk result → table_view table.new ≡ with_field key.now (Some (named_field kind number)) (table_view table.old) }
+    ensures says { says.named kind (named_field kind number) ≡ Some number }
+{
+    let value = name_or_number(alloc, kind, u32::from(number))?;
+    put(alloc, table, key, Some(value))
+}
+
+/// The name of a number, or the number if the standard has no name for it.
+#[tactic(auto, using(crate::proofs::WrittenNames::written_name, crate::proofs::WrittenNames::written_number))]
+fn name_or_number(alloc: Global, kind: NameKind, number: u32) -> Result<Value, AllocError>
+    ensures { IfOk result (λ v. view v ≡ named_field kind number) }
+{
+    match kind.name(number) {
+        Some(name) => Value::string(alloc, name),
+        None => Ok(Value::from(number)),
+    }
+}
+
+/// Puts the label ID of a slot of this type: that of a primary slot by its name, if it has one.
+#[tactic(auto, using(crate::proofs::WrittenNames::named_label_says, crate::proofs::WrittenNames::plain_label_says))]
+pub(super) fn put_label(
+    alloc: Global,
+    table: &mut Table,
+    kind: u8,
+    label: u16,
+) -> Result<(), AllocError>
+    ensures put { IsOk result → table_view table.new ≡ with_field (codes "label_id") (Some (label_field kind label)) (table_view table.old) }
+    ensures says { says.label_id kind (label_field kind label) ≡ Some label }
+{
+    if kind == PRIMARY_SLOT {
+        put_named_word(alloc, table, "label_id", NameKind::Labels, label)
+    } else {
+        put_word(alloc, table, "label_id", label)
+    }
 }
 
 /// Puts a signed number of 16 bits at the key.

@@ -14,11 +14,13 @@ ghost use Rattle.rdm_fixture.specs.Parameters.{IsField, IsParameter};
 ghost use Rattle.rdm_fixture.specs.Writing.{IsPlain, rights_name, shape_name, written_slots};
 
 use super::fields::{
-    ToEntry, list_of, put, put_byte, put_flag, put_integer, put_long, put_name, put_text, put_word,
+    ToEntry, list_of, put, put_byte, put_flag, put_integer, put_long, put_name, put_named_byte,
+    put_text, put_word,
 };
 use rdm_device::columns::added::{number_in, read_shape};
 use rdm_device::{Field, ParameterDef, Rights, Shape, Width};
 use rdm_frame::digits::put_digits;
+use rdm_standard_names::NameKind;
 use std::alloc::{AllocError, Global};
 use toml::{Table, Value};
 
@@ -40,8 +42,8 @@ impl ToEntry for ParameterDef {
         put(alloc, &mut table, "fields", fields)?;
         let start = start_of(alloc, self.shape, self.start.as_slice())?;
         put(alloc, &mut table, "default_value", Some(start))?;
-        put_byte(alloc, &mut table, "unit", self.unit)?;
-        put_byte(alloc, &mut table, "prefix", self.prefix)?;
+        put_named_byte(alloc, &mut table, "unit", NameKind::Units, self.unit)?;
+        put_named_byte(alloc, &mut table, "prefix", NameKind::Prefixes, self.prefix)?;
         put_flag(alloc, &mut table, "factory_defaults", self.resets)?;
         put_text(alloc, &mut table, "description", &self.name)?;
         Ok(table)

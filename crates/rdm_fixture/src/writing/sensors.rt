@@ -10,8 +10,9 @@ ghost use Rattle.rdm_fixture.specs.Lists.{ListAt, OfTable};
 ghost use Rattle.rdm_fixture.specs.Starting.{SaysPresent, measured};
 ghost use Rattle.rdm_fixture.specs.Writing.{IsPlain};
 
-use super::fields::{put, put_byte, put_flag, put_signed, put_text};
+use super::fields::{put, put_byte, put_flag, put_named_byte, put_signed, put_text};
 use rdm_device::SensorDef;
+use rdm_standard_names::NameKind;
 use std::alloc::{AllocError, Global};
 use toml::{Table, Value};
 
@@ -46,9 +47,15 @@ fn sensor_table(
     ensures plain { IfOk result (λ t. IsPlain 1 (table_data (table_view t))) }
 {
     let mut table = Table::new(alloc);
-    put_byte(alloc, &mut table, "type", sensor.kind)?;
-    put_byte(alloc, &mut table, "unit", sensor.unit)?;
-    put_byte(alloc, &mut table, "prefix", sensor.prefix)?;
+    put_named_byte(alloc, &mut table, "type", NameKind::Sensors, sensor.kind)?;
+    put_named_byte(alloc, &mut table, "unit", NameKind::Units, sensor.unit)?;
+    put_named_byte(
+        alloc,
+        &mut table,
+        "prefix",
+        NameKind::Prefixes,
+        sensor.prefix,
+    )?;
     put_signed(alloc, &mut table, "range_minimum_value", sensor.low)?;
     put_signed(alloc, &mut table, "range_maximum_value", sensor.high)?;
     put_signed(alloc, &mut table, "normal_minimum_value", sensor.normal_low)?;

@@ -10,9 +10,10 @@ ghost use Rattle.rdm_fixture_keys.specs.Keys.{has_only};
 ghost use Rattle.rdm_fixture.specs.Starting.{IsCounted};
 ghost use Rattle.rdm_fixture.specs.Writing.{IsPlain};
 
-use super::fields::{list_of, put, put_long, put_text, put_word};
+use super::fields::{list_of, put, put_long, put_named_word, put_text, put_word};
 use crate::starting::Starting;
 use rdm_device::Unit;
+use rdm_standard_names::NameKind;
 use std::alloc::{AllocError, Global};
 use toml::Table;
 
@@ -52,7 +53,13 @@ pub(super) fn unit_table(alloc: Global, unit: &Unit) -> Result<Table, AllocError
     )?;
     put_text(alloc, &mut table, "manufacturer_label", &unit.maker_text)?;
     put_text(alloc, &mut table, "device_label", &unit.label)?;
-    put_word(alloc, &mut table, "product_category", unit.category)?;
+    put_named_word(
+        alloc,
+        &mut table,
+        "product_category",
+        NameKind::Categories,
+        unit.category,
+    )?;
     put_long(alloc, &mut table, "software_version_id", unit.software)?;
     put_text(
         alloc,

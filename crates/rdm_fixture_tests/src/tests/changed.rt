@@ -22,7 +22,7 @@ lamp_strikes = 0
 languages = ["en"]
 more_slots = 0
 presets = 0
-product_category = 0
+product_category = "not declared"
 software_version_id = 0
 uid = "7FF0:00000001"
 
@@ -42,7 +42,7 @@ lamp_strikes = 0
 languages = ["en"]
 more_slots = 0
 presets = 0
-product_category = 0
+product_category = "not declared"
 software_version_id = 0
 uid = "7FF0:00000001"
 
@@ -53,7 +53,7 @@ dmx_footprint = 0
 count = 0
 device_model_id = 1
 dmx_start_address = 1
-product_category = 0
+product_category = "not declared"
 software_version_id = 0
 
 [[sub_devices.personality]]

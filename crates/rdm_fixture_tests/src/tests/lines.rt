@@ -60,7 +60,7 @@ line 10: in [sub_devices], unknown key `personalty`
 line 6: unknown key `personalty`
 
 ¶.. [[ "slot" ]]¶label_id = 1¶[[slot]]¶type = 256¶label_id = 2
-line 9: in slot 2, `type` must be an integer from 0 to 255
+line 9: in slot 2, `type` must be an integer from 0 to 255, or a name such as "fine" (felosumay fixture --names slots lists them)
 
 slot = [{ label_id = 1 },¶  { label_id = 2,¶  type = 3 }, # [[slot]]¶ 4]¶..
 line 4: in slot 3, `slot` must be a table

@@ -166,7 +166,7 @@ line 10: in parameter 1, `default_value` must be a string of two hexadecimal dig
 line 11: in parameter 1, `factory_defaults` must be true or false
 
 ¶.. [[parameter]]¶pid = 0x8001¶command_class = "get_set"¶data_type = "ascii"¶default_value = ""¶unit = 256
-line 11: in parameter 1, `unit` must be an integer from 0 to 255
+line 11: in parameter 1, `unit` must be an integer from 0 to 255, or a name such as "V DC" (felosumay fixture --names units lists them)
 
 ¶.. [[parameter]]¶pid = 0x8001¶command_class = "get_set"¶name = "Fan"
 line 9: in parameter 1, unknown key `name`

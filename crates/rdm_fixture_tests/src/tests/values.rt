@@ -108,6 +108,30 @@ fn try_slip(rt: &impl Abort, alloc: Global, place: Place<'_>) -> Result<(), Allo
     Ok(())
 }
 
+/// What is told behind the range of a number: on what it depends, or by which names it can be said.
+fn behind_range(place: Place<'_>) -> &'static str {
+    match place.key {
+        "dmx_footprint" => ", the number of [[slot]] tables plus `more_slots`",
+        "product_category" => {
+            ", or a name such as \"fixture, moving yoke\" (felosumay fixture --names categories lists them)"
+        }
+        "label_id" => ", or a name such as \"pan\" (felosumay fixture --names labels lists them)",
+        "unit" => ", or a name such as \"V DC\" (felosumay fixture --names units lists them)",
+        "prefix" => ", or a name such as \"k\" (felosumay fixture --names prefixes lists them)",
+        "type" => behind_type(place.table),
+        _ => "",
+    }
+}
+
+/// The same of the type of a sensor, or of a slot.
+fn behind_type(table: &str) -> &'static str {
+    if table == "[[sensor]]" {
+        ", or a name such as \"temperature\" (felosumay fixture --names sensors lists them)"
+    } else {
+        ", or a name such as \"fine\" (felosumay fixture --names slots lists them)"
+    }
+}
+
 fn try_number(rt: &impl Abort, alloc: Global, row: &str) -> Result<(), AllocError> {
     let (numbers, table) = row.split_once(": ").unwrap_or((row, ""));
     let mut words = numbers.split(' ');
@@ -121,11 +145,7 @@ fn try_number(rt: &impl Abort, alloc: Global, row: &str) -> Result<(), AllocErro
     let above = words.next().unwrap_or("");
     try_values(rt, alloc, place, least, "a fixture");
     try_values(rt, alloc, place, most, "a fixture");
-    let behind = if place.key == "dmx_footprint" {
-        ", the number of [[slot]] tables plus `more_slots`"
-    } else {
-        ""
-    };
+    let behind = behind_range(place);
     let expected = format!(in alloc;
         "`{}` must be an integer from {least} to {most}{behind}",
         place.key

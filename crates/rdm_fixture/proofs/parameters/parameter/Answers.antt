@@ -7,7 +7,8 @@ use Rattle.rdm_fixture.specs.FirstWrong.{said_parts}
 use Rattle.rdm_profile.specs.declared.profile.own.Shape.{Shape}
 use Rattle.rdm_profile.specs.declared.profile.own.Rights.{Rights}
 use Rattle.rdm_fixture_keys.specs.Keys.{may, must}
-use Rattle.rdm_fixture_keys.specs.Values.{integer_from, flag, number}
+use Rattle.rdm_fixture_keys.specs.Values.{integer_from, flag, named}
+use Rattle.rdm_standard_names.specs.declared.kind.NameKind.TheVariants.{Prefixes, Units}
 use Rattle.rdm_fixture.specs.Parameters.{SaysParameter, least_of, greatest_of, limit, low_in, high_in, start, is_setting}
 use Rattle.rdm_fixture_keys.specs.Wrong.{FirstWrong}
 use Rattle.rdm_fixture.proofs.OneFixture.{one}
@@ -73,7 +74,7 @@ returns-in_err-prefix-clause-wrong c =
     let high = to_z-of_z w64 c.in_ok-high.high (search rules) in
     let start_value : Some c.in_ok-start.start ≡ must (start c.in_ok-shape.shape c.in_ok-low.low c.in_ok-high.high) (get_member (codes "default_value") (table_view c.args.table.now)) = rw (low, high) at c.in_ok-start.ensures.value in
     exit (FirstWrong said_parts (table_view c.args.table.now)) _ _ c.from_residual-in_err-prefix.ensures.1
-    (inr (c.in_ok-only.ensures.variant.0 refl, inr (some _ c.in_ok-pid.ensures.value, inr (some _ c.in_ok-rights.ensures.value, inr (some _ c.in_ok-shape.ensures.value, inr ((c.in_ok-shape.shape, sym c.in_ok-shape.ensures.value, free_right (least_of c.in_ok-shape.shape) (limit c.in_ok-shape.shape) (get_member (codes "minimum_valid_value") (table_view c.args.table.now)) _ c.in_ok-low.ensures.value), inr ((c.in_ok-shape.shape, sym c.in_ok-shape.ensures.value, (c.in_ok-low.low, sym c.in_ok-low.ensures.value, free_right (greatest_of c.in_ok-shape.shape) (integer_from c.in_ok-low.low (greatest_of c.in_ok-shape.shape)) (get_member (codes "maximum_valid_value") (table_view c.args.table.now)) _ high_value)), inr ((c.in_ok-fields.fields.items, c.in_ok-fields.ensures.read), inr ((c.in_ok-shape.shape, sym c.in_ok-shape.ensures.value, (c.in_ok-low.low, sym c.in_ok-low.ensures.value, (c.in_ok-high.high, sym high_value, some _ start_value))), inr (free_right 0 (number 0 0xFF) (get_member (codes "unit") (table_view c.args.table.now)) _ c.in_ok-unit.ensures.value, inl c.in_err-prefix.ensures.wrong))))))))))
+    (inr (c.in_ok-only.ensures.variant.0 refl, inr (some _ c.in_ok-pid.ensures.value, inr (some _ c.in_ok-rights.ensures.value, inr (some _ c.in_ok-shape.ensures.value, inr ((c.in_ok-shape.shape, sym c.in_ok-shape.ensures.value, free_right (least_of c.in_ok-shape.shape) (limit c.in_ok-shape.shape) (get_member (codes "minimum_valid_value") (table_view c.args.table.now)) _ c.in_ok-low.ensures.value), inr ((c.in_ok-shape.shape, sym c.in_ok-shape.ensures.value, (c.in_ok-low.low, sym c.in_ok-low.ensures.value, free_right (greatest_of c.in_ok-shape.shape) (integer_from c.in_ok-low.low (greatest_of c.in_ok-shape.shape)) (get_member (codes "maximum_valid_value") (table_view c.args.table.now)) _ high_value)), inr ((c.in_ok-fields.fields.items, c.in_ok-fields.ensures.read), inr ((c.in_ok-shape.shape, sym c.in_ok-shape.ensures.value, (c.in_ok-low.low, sym c.in_ok-low.ensures.value, (c.in_ok-high.high, sym high_value, some _ start_value))), inr (free_right 0 (named Units) (get_member (codes "unit") (table_view c.args.table.now)) _ c.in_ok-unit.ensures.value, inl c.in_err-prefix.ensures.wrong))))))))))
 
 pub returns-in_err-resets-clause-wrong : goal.returns-in_err-resets-clause-wrong
 returns-in_err-resets-clause-wrong c =
@@ -82,7 +83,7 @@ returns-in_err-resets-clause-wrong c =
     let high = to_z-of_z w64 c.in_ok-high.high (search rules) in
     let start_value : Some c.in_ok-start.start ≡ must (start c.in_ok-shape.shape c.in_ok-low.low c.in_ok-high.high) (get_member (codes "default_value") (table_view c.args.table.now)) = rw (low, high) at c.in_ok-start.ensures.value in
     exit (FirstWrong said_parts (table_view c.args.table.now)) _ _ c.from_residual-in_err-resets.ensures.1
-    (inr (c.in_ok-only.ensures.variant.0 refl, inr (some _ c.in_ok-pid.ensures.value, inr (some _ c.in_ok-rights.ensures.value, inr (some _ c.in_ok-shape.ensures.value, inr ((c.in_ok-shape.shape, sym c.in_ok-shape.ensures.value, free_right (least_of c.in_ok-shape.shape) (limit c.in_ok-shape.shape) (get_member (codes "minimum_valid_value") (table_view c.args.table.now)) _ c.in_ok-low.ensures.value), inr ((c.in_ok-shape.shape, sym c.in_ok-shape.ensures.value, (c.in_ok-low.low, sym c.in_ok-low.ensures.value, free_right (greatest_of c.in_ok-shape.shape) (integer_from c.in_ok-low.low (greatest_of c.in_ok-shape.shape)) (get_member (codes "maximum_valid_value") (table_view c.args.table.now)) _ high_value)), inr ((c.in_ok-fields.fields.items, c.in_ok-fields.ensures.read), inr ((c.in_ok-shape.shape, sym c.in_ok-shape.ensures.value, (c.in_ok-low.low, sym c.in_ok-low.ensures.value, (c.in_ok-high.high, sym high_value, some _ start_value))), inr (free_right 0 (number 0 0xFF) (get_member (codes "unit") (table_view c.args.table.now)) _ c.in_ok-unit.ensures.value, inr (free_right 0 (number 0 0xFF) (get_member (codes "prefix") (table_view c.args.table.now)) _ c.in_ok-prefix.ensures.value, inl c.in_err-resets.ensures.wrong)))))))))))
+    (inr (c.in_ok-only.ensures.variant.0 refl, inr (some _ c.in_ok-pid.ensures.value, inr (some _ c.in_ok-rights.ensures.value, inr (some _ c.in_ok-shape.ensures.value, inr ((c.in_ok-shape.shape, sym c.in_ok-shape.ensures.value, free_right (least_of c.in_ok-shape.shape) (limit c.in_ok-shape.shape) (get_member (codes "minimum_valid_value") (table_view c.args.table.now)) _ c.in_ok-low.ensures.value), inr ((c.in_ok-shape.shape, sym c.in_ok-shape.ensures.value, (c.in_ok-low.low, sym c.in_ok-low.ensures.value, free_right (greatest_of c.in_ok-shape.shape) (integer_from c.in_ok-low.low (greatest_of c.in_ok-shape.shape)) (get_member (codes "maximum_valid_value") (table_view c.args.table.now)) _ high_value)), inr ((c.in_ok-fields.fields.items, c.in_ok-fields.ensures.read), inr ((c.in_ok-shape.shape, sym c.in_ok-shape.ensures.value, (c.in_ok-low.low, sym c.in_ok-low.ensures.value, (c.in_ok-high.high, sym high_value, some _ start_value))), inr (free_right 0 (named Units) (get_member (codes "unit") (table_view c.args.table.now)) _ c.in_ok-unit.ensures.value, inr (free_right 0 (named Prefixes) (get_member (codes "prefix") (table_view c.args.table.now)) _ c.in_ok-prefix.ensures.value, inl c.in_err-resets.ensures.wrong)))))))))))
 
 pub returns-in_err-name-clause-wrong : goal.returns-in_err-name-clause-wrong
 returns-in_err-name-clause-wrong c =
@@ -91,7 +92,7 @@ returns-in_err-name-clause-wrong c =
     let high = to_z-of_z w64 c.in_ok-high.high (search rules) in
     let start_value : Some c.in_ok-start.start ≡ must (start c.in_ok-shape.shape c.in_ok-low.low c.in_ok-high.high) (get_member (codes "default_value") (table_view c.args.table.now)) = rw (low, high) at c.in_ok-start.ensures.value in
     exit (FirstWrong said_parts (table_view c.args.table.now)) _ _ c.from_residual-in_err-name.ensures.1
-    (inr (c.in_ok-only.ensures.variant.0 refl, inr (some _ c.in_ok-pid.ensures.value, inr (some _ c.in_ok-rights.ensures.value, inr (some _ c.in_ok-shape.ensures.value, inr ((c.in_ok-shape.shape, sym c.in_ok-shape.ensures.value, free_right (least_of c.in_ok-shape.shape) (limit c.in_ok-shape.shape) (get_member (codes "minimum_valid_value") (table_view c.args.table.now)) _ c.in_ok-low.ensures.value), inr ((c.in_ok-shape.shape, sym c.in_ok-shape.ensures.value, (c.in_ok-low.low, sym c.in_ok-low.ensures.value, free_right (greatest_of c.in_ok-shape.shape) (integer_from c.in_ok-low.low (greatest_of c.in_ok-shape.shape)) (get_member (codes "maximum_valid_value") (table_view c.args.table.now)) _ high_value)), inr ((c.in_ok-fields.fields.items, c.in_ok-fields.ensures.read), inr ((c.in_ok-shape.shape, sym c.in_ok-shape.ensures.value, (c.in_ok-low.low, sym c.in_ok-low.ensures.value, (c.in_ok-high.high, sym high_value, some _ start_value))), inr (free_right 0 (number 0 0xFF) (get_member (codes "unit") (table_view c.args.table.now)) _ c.in_ok-unit.ensures.value, inr (free_right 0 (number 0 0xFF) (get_member (codes "prefix") (table_view c.args.table.now)) _ c.in_ok-prefix.ensures.value, inr (free_right _ flag (get_member (codes "factory_defaults") (table_view c.args.table.now)) _ c.in_ok-resets.ensures.value, inl c.in_err-name.ensures.wrong))))))))))))
+    (inr (c.in_ok-only.ensures.variant.0 refl, inr (some _ c.in_ok-pid.ensures.value, inr (some _ c.in_ok-rights.ensures.value, inr (some _ c.in_ok-shape.ensures.value, inr ((c.in_ok-shape.shape, sym c.in_ok-shape.ensures.value, free_right (least_of c.in_ok-shape.shape) (limit c.in_ok-shape.shape) (get_member (codes "minimum_valid_value") (table_view c.args.table.now)) _ c.in_ok-low.ensures.value), inr ((c.in_ok-shape.shape, sym c.in_ok-shape.ensures.value, (c.in_ok-low.low, sym c.in_ok-low.ensures.value, free_right (greatest_of c.in_ok-shape.shape) (integer_from c.in_ok-low.low (greatest_of c.in_ok-shape.shape)) (get_member (codes "maximum_valid_value") (table_view c.args.table.now)) _ high_value)), inr ((c.in_ok-fields.fields.items, c.in_ok-fields.ensures.read), inr ((c.in_ok-shape.shape, sym c.in_ok-shape.ensures.value, (c.in_ok-low.low, sym c.in_ok-low.ensures.value, (c.in_ok-high.high, sym high_value, some _ start_value))), inr (free_right 0 (named Units) (get_member (codes "unit") (table_view c.args.table.now)) _ c.in_ok-unit.ensures.value, inr (free_right 0 (named Prefixes) (get_member (codes "prefix") (table_view c.args.table.now)) _ c.in_ok-prefix.ensures.value, inr (free_right _ flag (get_member (codes "factory_defaults") (table_view c.args.table.now)) _ c.in_ok-resets.ensures.value, inl c.in_err-name.ensures.wrong))))))))))))
 
 pub returns-in_err-low-clause-read : goal.returns-in_err-low-clause-read
 returns-in_err-low-clause-read c =

@@ -16,17 +16,17 @@ returns-clause-says c = λ slots good texts.
     rw c.as_slice.ensures.value at (c.in_ok-personalities.ensures.says slots can) in
     rw (
       c.in_ok-put.ensures refl,
-      c.in_ok-put_word-3.ensures.put refl,
+      c.in_ok-put_word-2.ensures.put refl,
       c.in_ok-put_text-4.ensures.put refl,
       c.in_ok-put_long.ensures.put refl,
-      c.in_ok-put_word-2.ensures.put refl,
+      c.in_ok-put_named_word.ensures.put refl,
       c.in_ok-put_text-3.ensures.put refl,
       c.in_ok-put_text-2.ensures.put refl,
       c.in_ok-put_text.ensures.put refl,
       c.in_ok-put_word.ensures.put refl,
       ap members_view c.new-table.ensures.empty,
     )
-    (unit_says slots u (option_map view c.in_ok-personalities.personalities) good fit c.put_word.ensures.says c.put_word-2.ensures.says c.put_long.ensures.says
+    (unit_says slots u (option_map view c.in_ok-personalities.personalities) good fit c.put_word.ensures.says c.put_named_word.ensures.says c.put_long.ensures.says
     (c.put_text.ensures.says texts.model) (c.put_text-2.ensures.says texts.maker) (c.put_text-3.ensures.says texts.label)
     (c.put_text-4.ensures.says texts.software) items)
 
@@ -35,10 +35,10 @@ returns-clause-plain c =
     let u = c.args.unit.now in
     rw (
       c.in_ok-put.ensures refl,
-      c.in_ok-put_word-3.ensures.put refl,
+      c.in_ok-put_word-2.ensures.put refl,
       c.in_ok-put_text-4.ensures.put refl,
       c.in_ok-put_long.ensures.put refl,
-      c.in_ok-put_word-2.ensures.put refl,
+      c.in_ok-put_named_word.ensures.put refl,
       c.in_ok-put_text-3.ensures.put refl,
       c.in_ok-put_text-2.ensures.put refl,
       c.in_ok-put_text.ensures.put refl,

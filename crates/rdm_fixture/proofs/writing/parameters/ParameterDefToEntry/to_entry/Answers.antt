@@ -21,8 +21,8 @@ returns-clause-says c = λ slots can.
     rw (
       c.in_ok-put_text.ensures.put refl,
       c.in_ok-put_flag.ensures refl,
-      c.in_ok-put_byte-2.ensures.put refl,
-      c.in_ok-put_byte.ensures.put refl,
+      c.in_ok-put_named_byte-2.ensures.put refl,
+      c.in_ok-put_named_byte.ensures.put refl,
       c.in_ok-put-2.ensures refl,
       c.in_ok-put.ensures refl,
       c.in_ok-put_integer-2.ensures refl,
@@ -36,7 +36,7 @@ returns-clause-says c = λ slots can.
       low,
       high,
     )
-    (parameter_says d (option_map view c.in_ok-fields.fields) (view c.in_ok-start.start) can.0 can.1 can.2 can.3 can.4 c.put_word.ensures.says c.put_byte.ensures.says c.put_byte-2.ensures.says text
+    (parameter_says d (option_map view c.in_ok-fields.fields) (view c.in_ok-start.start) can.0 can.1 can.2 can.3 can.4 c.put_word.ensures.says c.put_named_byte.ensures.says c.put_named_byte-2.ensures.says text
     listed few (c.in_ok-start.ensures.says d refl (sym c.as_slice-2.ensures.value) can.1 (start_stands d can.4)))
 
 pub returns-clause-plain : goal.returns-clause-plain
@@ -47,8 +47,8 @@ returns-clause-plain c =
     rw (
       c.in_ok-put_text.ensures.put refl,
       c.in_ok-put_flag.ensures refl,
-      c.in_ok-put_byte-2.ensures.put refl,
-      c.in_ok-put_byte.ensures.put refl,
+      c.in_ok-put_named_byte-2.ensures.put refl,
+      c.in_ok-put_named_byte.ensures.put refl,
       c.in_ok-put-2.ensures refl,
       c.in_ok-put.ensures refl,
       c.in_ok-put_integer-2.ensures refl,
