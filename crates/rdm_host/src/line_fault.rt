@@ -11,6 +11,7 @@ use rdm_interface::SearchFault;
 use rdm_params::reason_name;
 use rdm_script::Refusal;
 use rdm_search::SearchError;
+use rdm_surveyor::SurveyFault;
 use std::fmt;
 
 /// What is printed on standard error of a line.
@@ -191,6 +192,16 @@ impl From<SearchFault> for Fault<'_> {
             SearchFault::Port(error) => Fault::Line(LineFault::Port(error)),
             SearchFault::Search(SearchError::OutOfMemory) => Fault::Memory,
             SearchFault::Search(SearchError::Limit) => Fault::Line(LineFault::Unsearched),
+        }
+    }
+}
+
+impl From<SurveyFault> for Fault<'_> {
+    fn from(fault: SurveyFault) -> Self {
+        match fault {
+            SurveyFault::OutOfMemory => Fault::Memory,
+            SurveyFault::Ask(error) => Fault::from(error),
+            SurveyFault::Port(error) => Fault::from(error),
         }
     }
 }

@@ -2,7 +2,6 @@
 
 use super::errand::Errand;
 use super::hint::Hint;
-use super::testing::Suite;
 use clap::ArgMatches;
 use rdm_collector::PortError;
 use rdm_host::fault::Fault;
@@ -11,6 +10,7 @@ use rdm_host::line_fault::LineFault;
 use rdm_host::source::Source;
 use rdm_host::watched::Watched;
 use rdm_interface::{Clock, Interface, RealClock};
+use rdm_line_commands::Suite;
 use rdm_line_talk::{Console, Knowledge, Log, Place, Recorder, Teller, Terminals, TraceFile};
 use std::fs::{File, OpenOptions, TryLockError};
 use std::io;

@@ -1,6 +1,5 @@
 //! Start addresses without overlaps are proposed, and set.
 
-use crate::making::{make_all, setting};
 use crate::reading::{order_in, survey_all};
 use clap::ArgMatches;
 use rdm_addresses::{Assignment, ProposalError, propose, put_assignment, put_heading};
@@ -8,7 +7,7 @@ use rdm_collector::{Command, Load, Port};
 use rdm_host::fault::Fault;
 use rdm_host::host::Host;
 use rdm_host::line_fault::LineFault;
-use rdm_line_talk::{Console, Teller};
+use rdm_line_talk::{Console, Teller, make_all, setting};
 use rdm_survey::{Order, sort};
 use std::alloc::Global;
 use std::io::Write;

@@ -1,7 +1,6 @@
 //! A survey is kept in a file, and devices are compared with it.
 
 use crate::addressing::settle;
-use crate::making::setting;
 use crate::reading::survey_all;
 use clap::ArgMatches;
 use rdm_collector::{Command, Port};
@@ -14,7 +13,7 @@ use rdm_host::host::Host;
 use rdm_host::line_fault::LineFault;
 use rdm_host::source;
 use rdm_host::source::Source;
-use rdm_line_talk::{Console, Teller};
+use rdm_line_talk::{Console, Teller, setting};
 use rdm_words::tables::parameters::parameter;
 use std::alloc::Global;
 use std::io::Write;

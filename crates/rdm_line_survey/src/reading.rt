@@ -7,7 +7,7 @@ use rdm_host::fault::Fault;
 use rdm_host::host::Host;
 use rdm_line_talk::{CONSOLE, Console, Teller};
 use rdm_survey::{Order, Row};
-use rdm_surveyor::{Report, SurveyFault, Surveyed, survey};
+use rdm_surveyor::{Report, Surveyed, survey};
 use std::alloc::Global;
 use std::io::Write;
 
@@ -88,16 +88,13 @@ pub(crate) fn read_one<'a, H: Host, P: Port, F: Write>(
 ) -> Result<(), Fault<'a>> {
     let alloc = console.teller.rt().alloc();
     let known = read.reports.len();
-    let Surveyed { row, has_more } = match survey(
+    let Surveyed { row, has_more } = survey(
         alloc,
         CONSOLE,
         uid,
         &mut console.port,
         &mut read.reports,
-    ) {
-        Ok(surveyed) => surveyed,
-        Err(fault) => return Err(fault_of(fault)),
-    };
+    )?;
     if has_more {
         read.unfinished.push(uid)?;
     }
@@ -140,13 +137,4 @@ pub(crate) fn tell_reports<'a, H: Host, P: Port, F: Write>(
         teller.tell(line.as_bytes())?;
     }
     Ok(())
-}
-
-/// The fault of a survey that stops.
-pub(crate) fn fault_of<'a>(fault: SurveyFault) -> Fault<'a> {
-    match fault {
-        SurveyFault::OutOfMemory => Fault::Memory,
-        SurveyFault::Ask(error) => Fault::from(error),
-        SurveyFault::Port(error) => Fault::from(error),
-    }
 }

@@ -1,7 +1,6 @@
 //! What is wrong with devices, and what waits in them.
 
 use crate::getting::{DEVICE_INFO, data_of, get};
-use crate::reading::fault_of;
 use rdm_collector::{Load, Port, Uid, Want, read_reply};
 use rdm_console::{Mailbox, Response};
 use rdm_frame::standard::STATUS_MESSAGES;
@@ -90,13 +89,9 @@ fn fetch<'a, H: Host, P: Port, F: Write>(
     reports: &mut Vec<Report>,
 ) -> Result<bool, Fault<'a>> {
     let alloc = console.teller.rt().alloc();
-    if let Err(fault) = fetch_last_status(alloc, CONSOLE, uid, &mut console.port, reports) {
-        return Err(fault_of(fault));
-    }
-    match fetch_statuses(alloc, CONSOLE, uid, &mut console.port, reports) {
-        Ok(statuses) => Ok(statuses.has_more),
-        Err(fault) => Err(fault_of(fault)),
-    }
+    fetch_last_status(alloc, CONSOLE, uid, &mut console.port, reports)?;
+    let statuses = fetch_statuses(alloc, CONSOLE, uid, &mut console.port, reports)?;
+    Ok(statuses.has_more)
 }
 
 /// Tells the entries of these reports. A status message may come in parts (section 6.3.2).

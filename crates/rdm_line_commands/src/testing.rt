@@ -1,9 +1,9 @@
 //! A device is tested with scripts.
 
-use super::equipment::Equipment;
-use super::errand::refuse_results;
-use super::needs::{Need, needs_in};
-use super::playing::{Play, console_in, device_in, play_script};
+use crate::equipment::Equipment;
+use crate::needs::{Need, needs_in};
+use crate::playing::{Play, console_in, device_in, play_script};
+use crate::refusing::refuse_results;
 use clap::ArgMatches;
 use rdm_collector::{Port, Want};
 use rdm_console::Mailbox;
@@ -37,10 +37,7 @@ struct Trial<'a> {
 
 impl<'a> Suite<'a> {
     /// The one that the words of the command line ask for. No script of it is played if one isn't valid, or says what can't be sent.
-    pub(crate) fn asked_for<H: Host>(
-        rt: H,
-        asked: &ArgMatches<'a>,
-    ) -> Result<Suite<'a>, Fault<'a>> {
+    pub fn asked_for<H: Host>(rt: H, asked: &ArgMatches<'a>) -> Result<Suite<'a>, Fault<'a>> {
         let uid = device_in(asked)?;
         let console = console_in(asked, uid)?;
         let names = asked.get_strs(rdm_usage::INPUT).unwrap_or(&[]);
@@ -91,7 +88,7 @@ fn refuse_clashes<'a>(asked: &ArgMatches<'a>, names: &[&'a str]) -> Result<(), F
 }
 
 /// Plays the scripts for which the device has what they need, and tells what came of what each expects.
-pub(crate) fn test_through<'a, H: Host, P: Port, F: Write>(
+pub fn test_through<'a, H: Host, P: Port, F: Write>(
     console: &mut Console<'a, H, P, F>,
     suite: &Suite<'a>,
 ) -> Result<(), Fault<'a>> {

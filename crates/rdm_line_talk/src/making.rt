@@ -1,16 +1,19 @@
 //! Settings are made, and read back.
 
+use crate::asking::{Outcome, fault_of};
+use crate::console::Console;
+use crate::targets::Tally;
+use crate::telling::{CONSOLE, Teller};
 use rdm_collector::{Action, Command, Load, Port, Want};
 use rdm_console::Mailbox;
 use rdm_frame::Uid;
 use rdm_host::fault::Fault;
 use rdm_host::host::Host;
 use rdm_host::line_fault::LineFault;
-use rdm_line_talk::{CONSOLE, Console, Outcome, Tally, Teller, fault_of};
 use std::io::Write;
 
 /// A SET of a parameter of the root or of a sub-device.
-pub(crate) fn setting(uid: Uid, sub: u16, pid: u16, load: Load) -> Command {
+pub fn setting(uid: Uid, sub: u16, pid: u16, load: Load) -> Command {
     Command {
         dst: uid,
         action: Action::Set,
@@ -31,7 +34,7 @@ enum Made {
 
 /// Makes each of these settings, and tells what was made and what wasn't, and how many couldn't be read back. A device that is at fault
 /// doesn't stop the others.
-pub(crate) fn make_all<'a, H: Host, P: Port, F: Write>(
+pub fn make_all<'a, H: Host, P: Port, F: Write>(
     console: &mut Console<'a, H, P, F>,
     settings: &[Command],
 ) -> Result<(), Fault<'a>> {
@@ -89,7 +92,7 @@ fn kept<'a>(setting: &Command, told: &[u8]) -> Result<Made, Fault<'a>> {
 }
 
 /// The GET of what a SET sets.
-pub(crate) fn reading_back(setting: &Command) -> Command {
+pub fn reading_back(setting: &Command) -> Command {
     Command {
         dst: setting.dst,
         action: Action::Get,
@@ -100,7 +103,7 @@ pub(crate) fn reading_back(setting: &Command) -> Command {
 }
 
 /// The data that a device replied, or the fault of a command that it didn't do.
-pub(crate) fn done_by<'a>(uid: Uid, outcome: Outcome) -> Result<Vec<u8>, Fault<'a>> {
+pub fn done_by<'a>(uid: Uid, outcome: Outcome) -> Result<Vec<u8>, Fault<'a>> {
     match outcome {
         Outcome::Done(data) => Ok(data),
         outcome => Err(Fault::Line(fault_of(uid, outcome))),

@@ -1,13 +1,12 @@
 //! Devices identify themselves, as by light, so that somebody finds them.
 
-use crate::making::{done_by, setting};
 use clap::ArgMatches;
 use rdm_collector::{Load, Port, Want};
 use rdm_console::Mailbox;
 use rdm_frame::Uid;
 use rdm_host::fault::Fault;
 use rdm_host::host::Host;
-use rdm_line_talk::{CONSOLE, Console, Tally, Targets};
+use rdm_line_talk::{CONSOLE, Console, Tally, Targets, done_by, setting};
 use std::alloc::Global;
 use std::io::Write;
 

@@ -34,7 +34,7 @@ enum State {
 }
 
 /// Finds all devices, polls them in turn, and tells each message as it comes. It doesn't end by itself.
-pub(crate) fn watch<'a, H: Host, P: Port, F: Write>(
+pub fn watch<'a, H: Host, P: Port, F: Write>(
     console: &mut Console<'a, H, P, F>,
 ) -> Result<(), Fault<'a>> {
     let found = console.found()?;

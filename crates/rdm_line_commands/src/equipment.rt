@@ -1,7 +1,7 @@
 //! What a device has of that which scripts need.
 
-use super::entry::FIRST_OF_MAKERS;
-use super::needs::Need;
+use crate::entry::FIRST_OF_MAKERS;
+use crate::needs::Need;
 use rdm_collector::{Action, Command, Load, Port};
 use rdm_console::Mailbox;
 use rdm_frame::Nack;

@@ -1,5 +1,6 @@
 //! A script is played on a real device.
 
+use crate::refusing::refuse_clashes;
 use clap::ArgMatches;
 use rdm_bus::Fault as BusFault;
 use rdm_collector::{
@@ -37,16 +38,22 @@ pub struct Play<'a> {
 }
 
 impl<'a> Play<'a> {
-    /// The one that the words of the command line ask for. A script is refused that isn't valid, or says what can't be sent.
-    pub(crate) fn asked_for<H: Host>(rt: H, asked: &ArgMatches<'a>) -> Result<Play<'a>, Fault<'a>> {
-        let uid = device_in(asked)?;
-        let console = console_in(asked, uid)?;
-        let source = Source::named(asked.get_str(rdm_usage::INPUT));
+    /// The script that `words` ask for, those behind `play` in the command line `asked`. One is refused that isn't valid, that says what can't
+    /// be sent, or that would be written over.
+    pub fn asked_for<H: Host>(
+        rt: H,
+        asked: &ArgMatches<'a>,
+        words: &ArgMatches<'a>,
+    ) -> Result<Play<'a>, Fault<'a>> {
+        refuse_clashes(asked, words)?;
+        let uid = device_in(words)?;
+        let console = console_in(words, uid)?;
+        let source = Source::named(words.get_str(rdm_usage::INPUT));
         let bytes = source.read(rt, MOST_BYTES as u64)?;
         let text = without_mark(bytes.as_slice());
         Ok(Play {
-            results: asked.get_str(rdm_usage::JUNIT),
-            printed: printed(asked, uid),
+            results: words.get_str(rdm_usage::JUNIT),
+            printed: printed(words, uid),
             ..Play::of(rt, uid, console, source.name(), text)?
         })
     }
@@ -103,7 +110,7 @@ pub(crate) fn console_in<'a>(asked: &ArgMatches<'a>, uid: Uid) -> Result<Uid, Fa
 }
 
 /// The UID that is named, which is that of one device.
-pub(crate) fn device_in<'a>(asked: &ArgMatches<'a>) -> Result<Uid, Fault<'a>> {
+pub fn device_in<'a>(asked: &ArgMatches<'a>) -> Result<Uid, Fault<'a>> {
     let uid = uid_in(asked.get_str(rdm_usage::UID).unwrap_or(""))?;
     if uid.is_broadcast() {
         return Err(Fault::Line(LineFault::Several(uid)));
@@ -160,7 +167,7 @@ impl Playing {
 }
 
 /// Plays a script, and prints its trace, or its words. Then it is told what came of what is expected.
-pub(crate) fn play_through<'a, H: Host, P: Port, F: Write>(
+pub fn play_through<'a, H: Host, P: Port, F: Write>(
     console: &mut Console<'a, H, P, F>,
     play: &Play<'a>,
 ) -> Result<(), Fault<'a>> {

@@ -1,13 +1,12 @@
 //! The settings of a file are made.
 
-use crate::making::{make_all, reading_back, setting};
 use rdm_collector::{Command, Port, Uid, Want};
 use rdm_console::Mailbox;
 use rdm_host::fault::Fault;
 use rdm_host::host::Host;
 use rdm_host::line_fault::{LineFault, Reason};
 use rdm_host::source::Source;
-use rdm_line_talk::{CONSOLE, Console, Outcome};
+use rdm_line_talk::{CONSOLE, Console, Outcome, make_all, reading_back, setting};
 use rdm_settings::{Setting, Sheet, settings_in};
 use rdm_words::tables::parameters::parameter;
 use std::io::Write;

@@ -1,6 +1,6 @@
 //! A value is read, and printed alone.
 
-use super::entry::{FIRST_OF_MAKERS, description_of};
+use crate::entry::{FIRST_OF_MAKERS, description_of};
 use rdm_collector::{Command, Port, Want};
 use rdm_console::Mailbox;
 use rdm_entry::{Field, fields_replied, words_of};
