@@ -38,8 +38,8 @@ pub struct Play<'a> {
 }
 
 impl<'a> Play<'a> {
-    /// The script that `words` ask for, those behind `play` in the command line `asked`. One is refused that isn't valid, that says what can't
-    /// be sent, or that would be written over.
+    /// The script that `words` ask for, those behind `play` in the command line `asked`. One is refused that isn't valid, that says what
+    /// can't be sent, or that would be written over.
     pub fn asked_for<H: Host>(
         rt: H,
         asked: &ArgMatches<'a>,
