@@ -7,6 +7,7 @@ use Rattle.rdm_profile.specs.Workers.{usual_workers}
 use Rattle.rdm_frame.specs.declared.uid.Uid.{Uid}
 use Rattle.rdm_fixture.specs.declared.fixture.Fixture.{Fixture}
 use Rattle.rdm_fixture.specs.declared.starting.Starting.{Starting}
+use Rattle.rdm_fixture.specs.OverTime.{no_courses}
 use Rattle.rdm_describe.specs.declared.answers.Answer.{Answer}
 use Rattle.rdm_describe.specs.Answers.{data_of, long_at}
 use Rattle.rdm_describe.specs.Added.{choices_of, parameters_of}
@@ -53,6 +54,7 @@ start_of answers = record {
   lamp_strikes = long_at (data_of answers 0 0x0402 0) 0;
   device_power_cycles = long_at (data_of answers 0 0x0405 0) 0;
   presents = record { items = take 8 (presents_of answers) };
+  courses = record { items = no_courses (take 8 (sensors_of answers)) };
 }
 
 abbrev pub fixture_of : Uid → List Answer → Fixture

@@ -20,7 +20,7 @@ use arrayvec::ArrayVec;
 use rdm_device::{
     ChoiceNames, Estimates, Locks, OwnParameters, Particular, Particulars, Profile, Workers,
 };
-use rdm_fixture::{Fixture, Starting};
+use rdm_fixture::{Fixture, Starting, no_courses};
 use rdm_frame::Uid;
 use std::alloc::{AllocError, Global};
 
@@ -56,17 +56,19 @@ fn fixture_of(alloc: Global, uid: Uid, answers: &[Answer]) -> Result<Fixture, Al
     })
 }
 
-/// What its counters and its sensors show now.
+/// What its counters and its sensors show now. What sensors show over time no answer tells.
 fn start_of(alloc: Global, answers: &[Answer]) -> Result<Starting, AllocError>
     ensures { IfOk result (λ s. s ≡ spec.start_of answers.now) }
 {
     let presents = presents_of(alloc, answers)?;
+    let sensors = first_of(sensors_of(alloc, answers)?);
     Ok(Starting {
         device_hours: long_at(data_of(answers, 0, 0x0400, 0), 0),
         lamp_hours: long_at(data_of(answers, 0, 0x0401, 0), 0),
         lamp_strikes: long_at(data_of(answers, 0, 0x0402, 0), 0),
         device_power_cycles: long_at(data_of(answers, 0, 0x0405, 0), 0),
         presents: first_of(presents),
+        courses: no_courses(&sensors),
     })
 }
 

@@ -1,5 +1,5 @@
 -- Each fixture that a text describes is one that a file can describe.
-use Rattle.std.proofs.Common.{◌≡◌, ℕ, ℤ, ◌+◌, ◌*◌, ◌/◌, ◌%◌, ◌≤◌, ◌<◌, Bool, true, false, ◌&&◌, if◌then◌else◌, List, [], ◌∷◌, Option, Some, None, option_map, option_and_then, All, IsTrue, refl, sym, ap, ◌∙◌, arith, codes}
+use Rattle.std.proofs.Common.{◌≡◌, ℕ, ℤ, ◌+◌, ◌*◌, ◌/◌, ◌%◌, ◌≤◌, ◌<◌, Bool, true, false, ◌&&◌, if◌then◌else◌, List, [], ◌∷◌, length, slice_index_or, zero, suc, subst, Option, Some, None, option_map, option_and_then, All, IsTrue, refl, sym, ap, ◌∙◌, arith, codes}
 use Rattle.std.proofs.lemmas.Bool.{and_parts, leb-true, le-leb}
 use Rattle.std.proofs.lemmas.Option.{same_Some}
 use Rattle.std.proofs.lemmas.List.Elements.{All-cons}
@@ -8,26 +8,30 @@ use Rattle.rdm_frame.specs.Addressing.{is_broadcast}
 use Rattle.rdm_frame.specs.DigitReading.{uid_in}
 use Rattle.rdm_frame.specs.declared.status.Severity.{Severity}
 use Rattle.rdm_frame.specs.declared.status.Severity.TheVariants.{Advisory, Warning, Error}
+use Rattle.rdm_courses.specs.declared.course.Course.{Course}
 use Rattle.rdm_profile.specs.declared.profile.Profile.{Profile}
+use Rattle.rdm_profile.specs.declared.profile.SensorDef.{SensorDef}
 use Rattle.rdm_profile.specs.declared.profile.Unit.{Unit as DeviceUnit}
 use Rattle.rdm_commands.specs.declared.jobs.outcome.Outcome.{Outcome}
 use Rattle.rdm_commands.specs.declared.jobs.outcome.Outcome.TheVariants.{Reading}
 use Rattle.rdm_outcomes.specs.declared.rule.Rule.{Rule}
-use Rattle.toml.specs.Data.{Data, string, integer, float, boolean, datetime, array, table, Members, get_member}
+use Rattle.toml.specs.Data.{Data, string, integer, float, boolean, datetime, array, table, Items, no_items, item, Members, get_member}
 use Rattle.rdm_fixture.specs.declared.fixture.Fixture.{Fixture}
 use Rattle.rdm_fixture_keys.specs.Values.{number, signed, uid, own_uid, language, language_in, is_letter}
 use Rattle.rdm_fixture_keys.specs.Keys.{may, must}
-use Rattle.rdm_fixture.specs.Lists.{OfTable}
+use Rattle.rdm_fixture.specs.Lists.{OfTable, EachIs, ListAt}
 use Rattle.rdm_fixture.specs.Outcomes.{IsOutcome, severity, only_number, done, failed, failed_in, outcome_at}
 use Rattle.rdm_fixture.specs.Parameters.{IsParameter}
 use Rattle.rdm_fixture_keys.specs.Entries.{IsPersonality, IsSlot, IsSensor, IsSelfTest, IsStatus, IsChoice}
 use Rattle.rdm_fixture.specs.Format.{IsUnit, SubDevices, LanguagesAt, IsProfile, SaysFixture}
+use Rattle.rdm_fixture.specs.OverTime.{IsCourse, AreCourses, misfit}
 use Rattle.rdm_fixture.specs.Starting.{SaysPresent}
 use Rattle.rdm_fixture.specs.Working.{CanWork}
 use Rattle.rdm_fixture.specs.Describes.{Describes}
 use Rattle.rdm_fixture.specs.Describable.{are_printable, HasPrintableUnit, HasPrintableTexts, is_coded, is_counted, is_base_form, is_told, is_ruled, is_sayable, CanBeDescribed}
 use Rattle.rdm_fixture.proofs.ListEntries.{slot_count-of}
 use Rattle.rdm_fixture.proofs.Made.{made, number_range, may_most, all_said, all_at, of_table}
+use Rattle.rdm_fixture.proofs.OneFixture.{one}
 use Rattle.rdm_fixture.proofs.Printables.{when, printable_at}
 use Rattle.rdm_fixture.proofs.SaidParameters.{sayable}
 
@@ -197,6 +201,47 @@ ruled t r h =
     and_both _ _ (counted (get_member (codes "job") t) r.turn h.turn)
     (and_both _ _ h.fits (told (get_member (codes "done") t) (get_member (codes "reading") t) (failed_in t) r.outcome failure h.outcome))
 
+-- ---- what sensors show over time
+
+-- a course fits the sensor that the same table says
+course_fits : (t : Members) (c : Course) (s : SensorDef) → IsCourse t c → IsSensor t s → misfit c s.at_once ≡ None
+course_fits t c s course sensor = subst (λ (b : Bool). misfit c b ≡ None) (one course.answered sensor.at_once) course.fits
+
+fit_of : (d : Data) (c : Course) (s : SensorDef) → OfTable IsCourse d c → OfTable IsSensor d s → misfit c s.at_once ≡ None
+fit_of (table t) c s course sensor = course_fits t c s course sensor
+fit_of (string x) c s course sensor = absurd course
+fit_of (integer z) c s course sensor = absurd course
+fit_of (float f) c s course sensor = absurd course
+fit_of (boolean b) c s course sensor = absurd course
+fit_of (datetime dt) c s course sensor = absurd course
+fit_of (array ds) c s course sensor = absurd course
+
+fits_more : (c : Course) (s : SensorDef) (cs : List Course) (ss : List SensorDef) → misfit c s.at_once ≡ None
+    → ((i : ℕ) (d : Course) (e : SensorDef) → i < length cs → misfit (slice_index_or cs i d) (slice_index_or ss i e).at_once ≡ None)
+    → (i : ℕ) (d : Course) (e : SensorDef) → i < suc (length cs) → misfit (slice_index_or (c ∷ cs) i d) (slice_index_or (s ∷ ss) i e).at_once ≡ None
+fits_more c s cs ss first rest zero d e less = first
+fits_more c s cs ss first rest (suc i) d e less = rest i d e (omega (arith, less))
+
+each_fits : (ds : Items) (cs : List Course) (ss : List SensorDef) → EachIs (OfTable IsCourse) ds cs → EachIs (OfTable IsSensor) ds ss → AreCourses cs ss
+each_fits no_items [] [] courses sensors = record { each = refl; fit = λ i c s less. absurd (omega (arith, less)) }
+each_fits no_items (c ∷ cs) ss courses sensors = absurd courses
+each_fits no_items [] (s ∷ ss) courses sensors = absurd sensors
+each_fits (item d ds) [] ss courses sensors = absurd courses
+each_fits (item d ds) (c ∷ cs) [] courses sensors = absurd sensors
+each_fits (item d ds) (c ∷ cs) (s ∷ ss) courses sensors =
+    let rest = each_fits ds cs ss courses.1 sensors.1 in
+    record { each = ap suc rest.each; fit = fits_more c s cs ss (fit_of d c s courses.0 sensors.0) rest.fit }
+
+courses_of : (found : Option Data) (cs : List Course) (ss : List SensorDef) → ListAt (OfTable IsCourse) found cs → ListAt (OfTable IsSensor) found ss → AreCourses cs ss
+courses_of None cs ss courses sensors = rw (courses, sensors) (record { each = refl; fit = λ i c s less. absurd (omega (arith, less)) })
+courses_of (Some (array ds)) cs ss courses sensors = each_fits ds cs ss courses sensors
+courses_of (Some (table t)) cs ss courses sensors = absurd courses
+courses_of (Some (string x)) cs ss courses sensors = absurd courses
+courses_of (Some (integer z)) cs ss courses sensors = absurd courses
+courses_of (Some (float f)) cs ss courses sensors = absurd courses
+courses_of (Some (boolean b)) cs ss courses sensors = absurd courses
+courses_of (Some (datetime dt)) cs ss courses sensors = absurd courses
+
 -- ---- the whole
 
 pub describable : (t : Members) (f : Fixture) → SaysFixture t f → CanWork f → CanBeDescribed f
@@ -210,6 +255,7 @@ describable t f said works = let profile = said.profile in record {
   outcomes = all_at _ (λ r. IsTrue (is_ruled r)) (of_table IsOutcome (λ r. IsTrue (is_ruled r)) ruled) (get_member (codes "outcome") t) _ said.outcomes.items;
   presents = slot_count-of (OfTable SaysPresent) (get_member (codes "sensor") t) f.start.presents.items said.start.presents.items
       ∙ sym (slot_count-of (OfTable IsSensor) (get_member (codes "sensor") t) f.profile.sensors.items profile.sensors.items);
+  courses = courses_of (get_member (codes "sensor") t) f.start.courses.items f.profile.sensors.items said.start.courses.items profile.sensors.items;
   works = works;
 }
 

@@ -6,6 +6,8 @@ use Rattle.std.specs.Ordering.{int_eq}
 use Rattle.std.proofs.lemmas.Bool.Decides.{Decides-and, Decides-like, Decides-eqb, Decides-int_eq}
 use Rattle.std.proofs.lemmas.Slice.Eq.{slice_eq-Decides}
 use Rattle.arrayvec.specs.declared.array_vec.ArrayVec.{ArrayVec}
+use Rattle.rdm_courses.specs.declared.course.Course.{Course}
+use Rattle.rdm_courses.specs.contracts.course.CoursePartialEq.TheImpl as courses
 use Rattle.rdm_frame.specs.contracts.uid.UidPartialEq.TheImpl as uids
 use Rattle.rdm_profile.specs.contracts.profile.ProfilePartialEq.TheImpl as profiles
 use Rattle.rdm_outcomes.specs.declared.rule.Rule.{Rule}
@@ -38,19 +40,23 @@ presents_decide : (v w : ArrayVec (Option ℤ) 8 (Unit {0})) → Decides (pointw
 presents_decide v w =
     Decides-like _ (ap (listed 8)) (ap (λ (u : ArrayVec (Option ℤ) 8 (Unit {0})). u.items)) (slice_eq-Decides option_decides v.items w.items _ refl)
 
-pub starting_decides : IsByValue starts.ghosts.eq
-starting_decides a b =
-    Decides-like _ (λ e. same_starting e.0 e.1.0 e.1.1.0 e.1.1.1.0 e.1.1.1.1)
+courses_decide : IsByValue courses.ghosts.eq → (v w : ArrayVec Course 8 (Unit {0})) → Decides (pointwise courses.ghosts.eq v.items w.items) (v ≡ w)
+courses_decide course v w =
+    Decides-like _ (ap (listed 8)) (ap (λ (u : ArrayVec Course 8 (Unit {0})). u.items)) (slice_eq-Decides course v.items w.items _ refl)
+
+pub starting_decides : IsByValue courses.ghosts.eq → IsByValue starts.ghosts.eq
+starting_decides course a b =
+    Decides-like _ (λ e. same_starting e.0 e.1.0 e.1.1.0 e.1.1.1.0 e.1.1.1.1.0 e.1.1.1.1.1)
     (λ e. (
       ap (λ (s : Starting). s.device_hours) e,
       (
         ap (λ (s : Starting). s.lamp_hours) e,
-        (ap (λ (s : Starting). s.lamp_strikes) e, (ap (λ (s : Starting). s.device_power_cycles) e, ap (λ (s : Starting). s.presents) e)),
+        (ap (λ (s : Starting). s.lamp_strikes) e, (ap (λ (s : Starting). s.device_power_cycles) e, (ap (λ (s : Starting). s.presents) e, ap (λ (s : Starting). s.courses) e))),
       ),
     ))
     (Decides-and _ _ (Decides-eqb a.device_hours b.device_hours) (Decides-and _ _ (Decides-eqb a.lamp_hours b.lamp_hours)
     (Decides-and _ _ (Decides-eqb a.lamp_strikes b.lamp_strikes) (Decides-and _ _ (Decides-eqb a.device_power_cycles b.device_power_cycles)
-    (presents_decide a.presents b.presents)))))
+    (Decides-and _ _ (presents_decide a.presents b.presents) (courses_decide course a.courses b.courses))))))
 
 pub fixture_decides : IsByValue uids.ghosts.eq → IsByValue profiles.ghosts.eq → IsByValue rules.ghosts.eq → IsByValue starts.ghosts.eq → IsByValue fixtures.ghosts.eq
 fixture_decides uid profile rule start a b =

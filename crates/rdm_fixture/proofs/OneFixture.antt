@@ -3,6 +3,9 @@ use Rattle.std.proofs.Common.{◌≡◌, ℕ, ℤ, Bool, List, [], ◌∷◌, Op
 use Rattle.std.proofs.lemmas.Option.{same_Some}
 use Rattle.arrayvec.specs.declared.array_vec.ArrayVec.{ArrayVec}
 use Rattle.rdm_frame.specs.declared.uid.Uid.{Uid}
+use Rattle.rdm_courses.specs.declared.course.Course.{Course}
+use Rattle.rdm_courses.specs.declared.course.Point.{Point}
+use Rattle.rdm_courses.specs.declared.course.Way.{Way}
 use Rattle.rdm_profile.specs.declared.profile.choices.ChoiceName.{ChoiceName}
 use Rattle.rdm_profile.specs.declared.profile.estimates.Estimates.{Estimates}
 use Rattle.rdm_profile.specs.declared.profile.fields.Field.{Field}
@@ -34,6 +37,7 @@ use Rattle.rdm_fixture_keys.specs.Keys.{may, must}
 use Rattle.rdm_fixture.specs.Lists.{OfTable, EachIs, ListAt, Lists}
 use Rattle.rdm_fixture_keys.specs.Values.{flag, label_id, number, language}
 use Rattle.rdm_fixture.specs.Parameters.{IsField, SaysParameter, IsParameter, greatest_said, low_in, high_in, start, is_setting}
+use Rattle.rdm_fixture.specs.OverTime.{IsPoint, SaysCourse, IsCourse}
 use Rattle.rdm_fixture.specs.Starting.{SaysPresent, IsStarting}
 use Rattle.rdm_fixture.specs.Outcomes.{IsOutcome}
 use Rattle.rdm_fixture_keys.specs.Entries.{IsPersonality, IsSlot, IsSensor, IsSelfTest, IsStatus, IsChoice}
@@ -370,22 +374,45 @@ one_rule t x y p q = same_rule (one p.task q.task) (one p.value q.value) (one p.
 
 -- ---- the whole
 
-abbrev pub starting_of : ℕ → ℕ → ℕ → ℕ → ArrayVec (Option ℤ) 8 (Unit {0}) → Starting
-starting_of a0 a1 a2 a3 a4 = record { device_hours = a0; lamp_hours = a1; lamp_strikes = a2; device_power_cycles = a3; presents = a4 }
+abbrev pub starting_of : ℕ → ℕ → ℕ → ℕ → ArrayVec (Option ℤ) 8 (Unit {0}) → ArrayVec Course 8 (Unit {0}) → Starting
+starting_of a0 a1 a2 a3 a4 a5 = record { device_hours = a0; lamp_hours = a1; lamp_strikes = a2; device_power_cycles = a3; presents = a4; courses = a5 }
 
-pub same_starting : {a0 b0 a1 b1 a2 b2 a3 b3 : ℕ} {a4 b4 : ArrayVec (Option ℤ) 8 (Unit {0})}
-    → a0 ≡ b0 → a1 ≡ b1 → a2 ≡ b2 → a3 ≡ b3 → a4 ≡ b4
-    → starting_of a0 a1 a2 a3 a4 ≡ starting_of b0 b1 b2 b3 b4
-same_starting e0 e1 e2 e3 e4 = rw (e0, e1, e2, e3, e4) refl
+pub same_starting : {a0 b0 a1 b1 a2 b2 a3 b3 : ℕ} {a4 b4 : ArrayVec (Option ℤ) 8 (Unit {0})} {a5 b5 : ArrayVec Course 8 (Unit {0})}
+    → a0 ≡ b0 → a1 ≡ b1 → a2 ≡ b2 → a3 ≡ b3 → a4 ≡ b4 → a5 ≡ b5
+    → starting_of a0 a1 a2 a3 a4 a5 ≡ starting_of b0 b1 b2 b3 b4 b5
+same_starting e0 e1 e2 e3 e4 e5 = rw (e0, e1, e2, e3, e4, e5) refl
 
 one_present : SaysOne SaysPresent
 one_present t x y p q = one p q
+
+abbrev point_of : ℕ → ℤ → Point
+point_of a0 a1 = record { at = a0; value = a1 }
+
+same_point : {a0 b0 : ℕ} {a1 b1 : ℤ} → a0 ≡ b0 → a1 ≡ b1 → point_of a0 a1 ≡ point_of b0 b1
+same_point e0 e1 = rw (e0, e1) refl
+
+one_point : SaysOne IsPoint
+one_point t x y p q = same_point (one p.at q.at) (one p.value q.value)
+
+abbrev course_of : ArrayVec Point 16 (Unit {0}) → Way → Bool → Course
+course_of a0 a1 a2 = record { points = a0; way = a1; repeats = a2 }
+
+same_course : {a0 b0 : ArrayVec Point 16 (Unit {0})} {a1 b1 : Way} {a2 b2 : Bool} → a0 ≡ b0 → a1 ≡ b1 → a2 ≡ b2 → course_of a0 a1 a2 ≡ course_of b0 b1 b2
+same_course e0 e1 e2 = rw (e0, e1, e2) refl
+
+pub one_course_said : SaysOne SaysCourse
+one_course_said t x y p q =
+    same_course (ap (listed 16) (one_list t _ IsPoint 0 16 _ _ one_point p.points q.points)) (one p.way q.way) (one p.repeats q.repeats)
+
+one_course : SaysOne IsCourse
+one_course t x y p q = one_course_said t x y p.said q.said
 
 pub one_starting : SaysOne IsStarting
 one_starting t x y p q =
     same_starting (one p.counted.device_hours q.counted.device_hours) (one p.counted.lamp_hours q.counted.lamp_hours)
     (one p.counted.lamp_strikes q.counted.lamp_strikes) (one p.counted.device_power_cycles q.counted.device_power_cycles)
     (ap (listed 8) (one_list t _ SaysPresent 0 8 _ _ one_present p.presents q.presents))
+    (ap (listed 8) (one_list t _ IsCourse 0 8 _ _ one_course p.courses q.courses))
 
 abbrev pub fixture_of : Uid → Profile → ArrayVec Rule 32 (Unit {0}) → Starting → Fixture
 fixture_of a0 a1 a2 a3 = record { uid = a0; profile = a1; outcomes = a2; start = a3 }

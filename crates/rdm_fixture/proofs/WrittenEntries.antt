@@ -1,5 +1,8 @@
 -- What is written of the entries of lists.
-use Rattle.std.proofs.Common.{◌≡◌, false, ℕ, ◌≤◌, ◌<◌, ℤ, pos, neg_ℤ, List, [], ◌∷◌, Option, Some, None, refl, sym, ap, ◌∙◌, subst, arith, codes}
+use Rattle.std.proofs.Common.{◌≡◌, false, length, ℕ, ◌≤◌, ◌<◌, ℤ, pos, neg_ℤ, List, [], ◌∷◌, Option, Some, None, refl, sym, ap, ◌∙◌, subst, arith, codes}
+use Rattle.rdm_courses.specs.declared.course.Course.{Course}
+use Rattle.rdm_courses.specs.declared.course.Point.{Point}
+use Rattle.rdm_courses.specs.declared.course.Way.TheVariants.{Steps}
 use Rattle.rdm_profile.specs.declared.profile.choices.ChoiceName.{ChoiceName}
 use Rattle.rdm_profile.specs.declared.profile.estimates.Estimates.{Estimates}
 use Rattle.rdm_profile.specs.declared.profile.locks.Lock.{Lock}
@@ -16,9 +19,10 @@ use Rattle.toml.specs.Data.{Data, integer, boolean, table, get_member}
 use Rattle.rdm_fixture_keys.specs.Entries.{IsPersonality, IsSlot, IsSensor, IsSelfTest, IsStatus, IsChoice, personality_keys, slot_keys, sensor_keys, self_test_keys, status_keys, choice_keys}
 use Rattle.rdm_fixture.specs.Format.{IsLocking, locked_pid, IsEstimates, IsWorkers, estimates_keys, workers_keys, locking_keys}
 use Rattle.rdm_fixture_keys.specs.Keys.{may}
-use Rattle.rdm_fixture.specs.Lists.{ListAt}
+use Rattle.rdm_fixture.specs.Lists.{ListAt, OfTable}
 use Rattle.rdm_fixture_keys.specs.Values.{flag, label_id, named, number, worker, signed, text}
 use Rattle.rdm_standard_names.specs.declared.kind.NameKind.TheVariants.{Prefixes, Sensors, Slots, Units}
+use Rattle.rdm_fixture.specs.OverTime.{IsPoint, IsCourse, point_keys, misfit, way}
 use Rattle.rdm_fixture.specs.Starting.{measured, SaysPresent}
 use Rattle.rdm_fixture.specs.Writing.{text_field, named_field, label_field, locking_of, IsPlain}
 use Rattle.rdm_standard_names.specs.declared.kind.NameKind.{NameKind}
@@ -63,41 +67,77 @@ slot_says s kind label value name = let fs = slot_fields s in record {
 pub slot_plain : (s : Slot) → IsPlain 1 (table (members_from (slot_fields s)))
 slot_plain s = plain_from 0 (slot_fields s) (text_plain 0 (codes "description") s.name _ (number_plain 0 _, (label_plain 0 s.kind s.label, (named_plain 0 Slots s.kind, tt))))
 
--- ---- sensors
+-- ---- points of a course
 
-abbrev pub sensor_fields : SensorDef → Option Data → List Field
-sensor_fields s given =
-    (codes "present", given) ∷ (codes "answered_at_once", Some (boolean s.at_once)) ∷ (codes "description", text_field s.name)
-    ∷ (codes "recorded_value_support", Some (integer (pos s.support)))
-    ∷ (codes "normal_maximum_value", Some (integer s.normal_high)) ∷ (codes "normal_minimum_value", Some (integer s.normal_low))
-    ∷ (codes "range_maximum_value", Some (integer s.high)) ∷ (codes "range_minimum_value", Some (integer s.low))
-    ∷ (codes "prefix", Some (named_field Prefixes s.prefix)) ∷ (codes "unit", Some (named_field Units s.unit))
-    ∷ (codes "type", Some (named_field Sensors s.kind)) ∷ []
+abbrev pub point_fields : Point → List Field
+point_fields p = (codes "value", Some (integer p.value)) ∷ (codes "at", Some (integer (pos p.at))) ∷ []
 
-pub present_says : (s : SensorDef) (given : Option Data) (present : Option ℤ) → may None measured given ≡ Some present
-    → SaysPresent (members_from (sensor_fields s given)) present
-present_says s given present is = ap (may None measured) (get_from (codes "present") (sensor_fields s given) ∙ or_none given) ∙ is
-
-pub sensor_says : (s : SensorDef) (given : Option Data) → says_named Sensors s.kind → says_named Units s.unit → says_named Prefixes s.prefix → says_signed s.low → says_signed s.high
-    → says_signed s.normal_low → says_signed s.normal_high → says_byte s.support → says_text s.name → IsSensor (members_from (sensor_fields s given)) s
-sensor_says s given kind unit prefix low high normal_low normal_high support name = let fs = sensor_fields s given in record {
-  keys = only_from sensor_keys fs refl;
-  kind = must_say (codes "type") fs (named Sensors) _ _ refl kind;
-  unit = may_say (codes "unit") fs 0 (named Units) _ _ refl unit;
-  prefix = may_say (codes "prefix") fs 0 (named Prefixes) _ _ refl prefix;
-  low = may_say (codes "range_minimum_value") fs (neg_ℤ (pos 32768)) signed _ _ refl low;
-  high = may_say (codes "range_maximum_value") fs (pos 32767) signed _ _ refl high;
-  normal_low = may_say (codes "normal_minimum_value") fs (neg_ℤ (pos 32768)) signed _ _ refl normal_low;
-  normal_high = may_say (codes "normal_maximum_value") fs (pos 32767) signed _ _ refl normal_high;
-  support = may_say (codes "recorded_value_support") fs 0 (number 0 0xFF) _ _ refl support;
-  name = may_text (codes "description") fs s.name refl name;
-  at_once = may_say (codes "answered_at_once") fs false flag _ _ refl refl;
+pub point_says : (p : Point) → says_long p.at → says_signed p.value → IsPoint (members_from (point_fields p)) p
+point_says p at value = let fs = point_fields p in record {
+  keys = only_from point_keys fs refl;
+  at = must_say (codes "at") fs (number 0 0xFFFFFFFF) _ _ refl at;
+  value = must_say (codes "value") fs signed _ _ refl value;
 }
 
-pub sensor_plain : (s : SensorDef) (given : Option Data) → ((d : Data) → given ≡ Some d → IsPlain 0 d) → IsPlain 1 (table (members_from (sensor_fields s given)))
-sensor_plain s given is =
-    plain_from 0 (sensor_fields s given)
-    (option_plain 0 (codes "present") given _ is (flag_plain 0 _, text_plain 0 (codes "description") s.name _ (number_plain 0 _, (number_plain 0 _, (number_plain 0 _, (number_plain 0 _, (number_plain 0 _, (named_plain 0 Prefixes s.prefix, (named_plain 0 Units s.unit, (named_plain 0 Sensors s.kind, tt))))))))))
+pub point_plain : (p : Point) → IsPlain 1 (table (members_from (point_fields p)))
+point_plain p = plain_from 0 (point_fields p) (number_plain 0 _, (number_plain 0 _, tt))
+
+-- ---- sensors
+
+module _ (s : SensorDef) (given over way_given again : Option Data) where
+  abbrev pub sensor_fields : List Field
+  sensor_fields =
+      (codes "repeats", again) ∷ (codes "course", way_given) ∷ (codes "over_time", over)
+      ∷ (codes "present", given) ∷ (codes "answered_at_once", Some (boolean s.at_once)) ∷ (codes "description", text_field s.name)
+      ∷ (codes "recorded_value_support", Some (integer (pos s.support)))
+      ∷ (codes "normal_maximum_value", Some (integer s.normal_high)) ∷ (codes "normal_minimum_value", Some (integer s.normal_low))
+      ∷ (codes "range_maximum_value", Some (integer s.high)) ∷ (codes "range_minimum_value", Some (integer s.low))
+      ∷ (codes "prefix", Some (named_field Prefixes s.prefix)) ∷ (codes "unit", Some (named_field Units s.unit))
+      ∷ (codes "type", Some (named_field Sensors s.kind)) ∷ []
+
+  pub present_says : (present : Option ℤ) → may None measured given ≡ Some present → SaysPresent (members_from sensor_fields) present
+  present_says present is = ap (may None measured) (get_from (codes "present") sensor_fields ∙ or_none given) ∙ is
+
+  pub course_says : (c : Course) → ListAt (OfTable IsPoint) over c.points.items → length c.points.items ≤ 16
+      → may Steps way way_given ≡ Some c.way → may false flag again ≡ Some c.repeats → misfit c s.at_once ≡ None
+      → IsCourse (members_from sensor_fields) c
+  course_says c points few is repeated fits = record {
+    said = record {
+      points = record {
+        items = subst (λ (o : Option Data). ListAt (OfTable IsPoint) o c.points.items) (sym (get_from (codes "over_time") sensor_fields ∙ or_none over)) points;
+        enough = omega arith;
+        fit = few;
+      };
+      way = ap (may Steps way) (get_from (codes "course") sensor_fields ∙ or_none way_given) ∙ is;
+      repeats = ap (may false flag) (get_from (codes "repeats") sensor_fields ∙ or_none again) ∙ repeated;
+    };
+    at_once = s.at_once;
+    answered = may_say (codes "answered_at_once") sensor_fields false flag _ _ refl refl;
+    fits = fits;
+  }
+
+  pub sensor_says : says_named Sensors s.kind → says_named Units s.unit → says_named Prefixes s.prefix → says_signed s.low → says_signed s.high
+      → says_signed s.normal_low → says_signed s.normal_high → says_byte s.support → says_text s.name → IsSensor (members_from sensor_fields) s
+  sensor_says kind unit prefix low high normal_low normal_high support name = let fs = sensor_fields in record {
+    keys = only_from sensor_keys fs refl;
+    kind = must_say (codes "type") fs (named Sensors) _ _ refl kind;
+    unit = may_say (codes "unit") fs 0 (named Units) _ _ refl unit;
+    prefix = may_say (codes "prefix") fs 0 (named Prefixes) _ _ refl prefix;
+    low = may_say (codes "range_minimum_value") fs (neg_ℤ (pos 32768)) signed _ _ refl low;
+    high = may_say (codes "range_maximum_value") fs (pos 32767) signed _ _ refl high;
+    normal_low = may_say (codes "normal_minimum_value") fs (neg_ℤ (pos 32768)) signed _ _ refl normal_low;
+    normal_high = may_say (codes "normal_maximum_value") fs (pos 32767) signed _ _ refl normal_high;
+    support = may_say (codes "recorded_value_support") fs 0 (number 0 0xFF) _ _ refl support;
+    name = may_text (codes "description") fs s.name refl name;
+    at_once = may_say (codes "answered_at_once") fs false flag _ _ refl refl;
+  }
+
+  pub sensor_plain : ((d : Data) → given ≡ Some d → IsPlain 2 d) → ((d : Data) → over ≡ Some d → IsPlain 2 d) → ((d : Data) → way_given ≡ Some d → IsPlain 2 d)
+      → ((d : Data) → again ≡ Some d → IsPlain 2 d) → IsPlain 3 (table (members_from sensor_fields))
+  sensor_plain is is_over is_way is_again =
+      plain_from 2 sensor_fields
+      (option_plain 2 (codes "repeats") again _ is_again (option_plain 2 (codes "course") way_given _ is_way (option_plain 2 (codes "over_time") over _ is_over
+      (option_plain 2 (codes "present") given _ is (flag_plain 2 _, text_plain 2 (codes "description") s.name _ (number_plain 2 _, (number_plain 2 _, (number_plain 2 _, (number_plain 2 _, (number_plain 2 _, (named_plain 2 Prefixes s.prefix, (named_plain 2 Units s.unit, (named_plain 2 Sensors s.kind, tt)))))))))))))
 
 -- ---- names of choices
 

@@ -17,6 +17,7 @@ use Rattle.rdm_fixture_keys.specs.Keys.{may, must, has_only}
 use Rattle.rdm_fixture.specs.Lists.{EachIs, ListAt, OfTable}
 use Rattle.rdm_fixture.specs.Outcomes.{IsOutcome}
 use Rattle.rdm_fixture.specs.Parameters.{IsParameter}
+use Rattle.rdm_fixture.specs.OverTime.{IsCourse}
 use Rattle.rdm_fixture.specs.Starting.{IsCounted, SaysPresent}
 use Rattle.rdm_fixture_keys.specs.Values.{number, text, uid, own_uid, language}
 use Rattle.rdm_fixture.specs.Writing.{with_field, text_field, locking_of, IsPlain}
@@ -111,6 +112,7 @@ module _ (f : Fixture) (base : Members) (uid_data languages : Data) (slots senso
       → ListAt (OfTable IsSlot) slots f.profile.slots.items → length f.profile.slots.items ≤ 46
       → ListAt (OfTable IsSensor) sensors f.profile.sensors.items → length f.profile.sensors.items ≤ 8
       → ListAt (OfTable SaysPresent) sensors f.start.presents.items
+      → ListAt (OfTable IsCourse) sensors f.start.courses.items
       → ListAt (OfTable IsSelfTest) tests f.profile.tests.items → length f.profile.tests.items ≤ 8
       → ListAt (OfTable IsStatus) statuses f.profile.status_texts.items → length f.profile.status_texts.items ≤ 8
       → ListAt (λ d pid. parameter_named d ≡ Some pid) lacks f.profile.particulars.without.items → length f.profile.particulars.without.items ≤ 36
@@ -121,7 +123,7 @@ module _ (f : Fixture) (base : Members) (uid_data languages : Data) (slots senso
       → ((n : ℕ) (t : Members) → IsUnit n t f.profile.root → SubDevices n t subs f.profile.subs f.profile.sub)
       → EstimatesAt times f.profile.particulars.estimates → WorkersAt chosen f.profile.workers
       → IsFixture (members_on base fixture_fields) f
-  fixture_says can only counted root own boot boot_text langs slot slot_fit sensor sensor_fit present test test_fit status status_fit lacked lacked_fit added added_fit named named_fit lock lock_fit outcome outcome_fit sub time worker =
+  fixture_says can only counted root own boot boot_text langs slot slot_fit sensor sensor_fit present course test test_fit status status_fit lacked lacked_fit added added_fit named named_fit lock lock_fit outcome outcome_fit sub time worker =
       let fs = fixture_fields in
       let t = members_on base fs in
       let at_slot : get_member (codes "slot") t ≡ slots = found (codes "slot") slots refl (absent root_keys (codes "slot") base only refl) in
@@ -189,6 +191,11 @@ module _ (f : Fixture) (base : Members) (uid_data languages : Data) (slots senso
               items = rw (found (codes "sensor") sensors refl (absent root_keys (codes "sensor") base only refl)) present;
               enough = omega arith;
               fit = let same = can.presents in omega (arith, same, sensor_fit);
+            };
+            courses = record {
+              items = rw (found (codes "sensor") sensors refl (absent root_keys (codes "sensor") base only refl)) course;
+              enough = omega arith;
+              fit = let same = can.courses.each in omega (arith, same, sensor_fit);
             };
           };
         };

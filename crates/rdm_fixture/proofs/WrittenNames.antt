@@ -1,7 +1,7 @@
 -- What is written of numbers that the standard has names for.
 use Rattle.std.proofs.Common.{◌≡◌, ◌≤◌, ◌==◌, ℕ, pos, Bool, true, false, List, Option, Some, None, IfSome, if◌then◌else◌, refl, ap, arith}
 use Rattle.toml.specs.Data.{integer, string}
-use Rattle.rdm_fixture_keys.specs.Values.{label_id, named, number}
+use Rattle.rdm_fixture_keys.specs.Values.{label_id, named}
 use Rattle.rdm_standard_names.specs.Names.{greatest_of, name_numbered, number_named}
 use Rattle.rdm_standard_names.specs.declared.kind.NameKind.{NameKind}
 use Rattle.rdm_standard_names.specs.declared.kind.NameKind.TheVariants.{Labels}

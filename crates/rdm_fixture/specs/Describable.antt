@@ -15,6 +15,7 @@ use Rattle.rdm_commands.specs.declared.jobs.outcome.Outcome.TheVariants.{Failed}
 use Rattle.rdm_outcomes.specs.declared.rule.Rule.{Rule}
 use Rattle.rdm_outcomes.specs.Outcomes.{suits}
 use Rattle.rdm_fixture.specs.declared.fixture.Fixture.{Fixture}
+use Rattle.rdm_fixture.specs.OverTime.{AreCourses}
 use Rattle.rdm_fixture.specs.Parameters.{least_of, greatest_of, can_reset}
 use Rattle.rdm_fixture_keys.specs.Values.{is_printable, is_letter}
 use Rattle.rdm_fixture.specs.Working.{CanWork}
@@ -96,4 +97,5 @@ pub record CanBeDescribed (f : Fixture) : Type 0 where
   pub languages : All (λ l. IsTrue (is_coded l)) f.profile.languages.items
   pub outcomes : All (λ r. IsTrue (is_ruled r)) f.outcomes.items
   pub presents : length f.start.presents.items ≡ length f.profile.sensors.items
+  pub courses : AreCourses f.start.courses.items f.profile.sensors.items
   pub works : CanWork f

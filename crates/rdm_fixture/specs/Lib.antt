@@ -10,3 +10,4 @@ pub mod Describable
 pub mod Cause
 pub mod FirstWrong
 pub mod Writing
+pub mod OverTime

@@ -6,6 +6,7 @@ use Rattle.toml.specs.Data.{Data, Members}
 use Rattle.rdm_fixture.specs.declared.starting.Starting.{Starting}
 use Rattle.rdm_fixture_keys.specs.Keys.{May}
 use Rattle.rdm_fixture.specs.Lists.{Lists, OfTable}
+use Rattle.rdm_fixture.specs.OverTime.{IsCourse, no_courses}
 use Rattle.rdm_fixture_keys.specs.Values.{number, signed}
 
 -- ---- counters: sections 10.8.1 to 10.8.6
@@ -37,6 +38,7 @@ nothing_measured sensors = record {
   lamp_strikes = 0;
   device_power_cycles = 0;
   presents = record { items = map (λ s. None) sensors };
+  courses = record { items = no_courses sensors };
 }
 
 -- the lowest and the highest value of a sensor that keeps them (bit 1 of its support) are what it has measured
@@ -48,8 +50,9 @@ abbrev pub shown_at_start : ℕ → ℤ → ℕ → List ℕ
 shown_at_start number present support =
     number ∷ (signed_slots present ++ (ends_at_start present support ++ (ends_at_start present support ++ 0 ∷ 0 ∷ [])))
 
--- ---- both
+-- ---- the whole
 
 pub record IsStarting (t : Members) (s : Starting) : Type 0 where
   pub counted : IsCounted t s
   pub presents : Lists t (codes "sensor") (OfTable SaysPresent) 0 8 s.presents.items
+  pub courses : Lists t (codes "sensor") (OfTable IsCourse) 0 8 s.courses.items

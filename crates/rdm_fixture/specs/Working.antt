@@ -16,6 +16,7 @@ use Rattle.rdm_outcomes.specs.declared.rule.Task.{Task}
 use Rattle.rdm_outcomes.specs.declared.rule.Task.TheVariants.{LampState, PowerState, PerformSelfTest, SensorValue}
 use Rattle.rdm_outcomes.specs.Outcomes.{task_pid}
 use Rattle.rdm_fixture.specs.declared.fixture.Fixture.{Fixture}
+use Rattle.rdm_fixture.specs.OverTime.{can_run}
 use Rattle.rdm_fixture_keys.specs.declared.refusal.Agreement.{Agreement}
 use Rattle.rdm_fixture_keys.specs.declared.refusal.Agreement.TheVariants as agreements
 use Rattle.rdm_fixture_keys.specs.declared.refusal.Wanted.TheVariants as wanted
@@ -91,7 +92,7 @@ abbrev pub can_measure : List ℕ → List (Option ℤ) → Bool
 can_measure pids presents = not (leaves_out pids 0x0201) || list_all (λ o. not (is_some o)) presents
 
 abbrev pub can_start_so : List ℕ → Starting → Bool
-can_start_so pids s = can_count_all pids s && can_measure pids s.presents.items
+can_start_so pids s = can_count_all pids s && (can_measure pids s.presents.items && can_run pids s.courses.items)
 
 -- ---- the whole
 

@@ -4,6 +4,7 @@ ghost use Rattle.std.specs.Prelude.{◌≡◌, ◌↔◌, ℕ, List, IsTrue};
 ghost use Rattle.rdm_fixture.specs.Describes.{Describes};
 
 use crate::{Fixture, Starting, WriteError};
+use rdm_courses::courses_are_equal_by_value;
 use rdm_device::profiles_are_equal_by_value;
 use rdm_frame::uids_are_equal_by_value;
 use rdm_outcomes::rules_are_equal_by_value;
@@ -16,7 +17,9 @@ pub fn text_describes_one_fixture()
 /// Two values of `Starting` are equal by `==` exactly when they are the same.
 pub fn starts_are_equal_by_value()
     ensures { (a b : Starting) → IsTrue (⟦<Starting as PartialEq>⟧.eq a b) ↔ (a ≡ b) }
-{}
+{
+    courses_are_equal_by_value();
+}
 
 /// Two fixtures are equal by `==` exactly when their UIDs, their profiles, their outcomes and what they start with are.
 pub fn fixtures_are_equal_by_value()

@@ -5,6 +5,7 @@
 //! `Fixture::to_toml` writes one. The format is `specs/Format.antt`.
 #![tactic(auto)]
 
+mod courses;
 mod document;
 mod entries;
 mod estimates;
@@ -21,6 +22,7 @@ mod workers;
 mod working;
 mod writing;
 
+pub use courses::no_courses;
 pub use document::FixtureError;
 pub use fixture::Fixture;
 pub use laws::{

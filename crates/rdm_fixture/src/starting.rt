@@ -9,8 +9,10 @@ ghost use Rattle.rdm_fixture.specs.Starting.{IsStarting, SaysPresent};
 ghost use Rattle.rdm_fixture_keys.specs.Wrong.{FirstWrong};
 ghost use Rattle.toml.specs.View.{table_view};
 
+use crate::courses::no_courses;
 use crate::lists::{FromEntry, list};
 use arrayvec::ArrayVec;
+use rdm_courses::Course;
 use rdm_device::SensorDef;
 use rdm_fixture_keys::Refusal;
 use rdm_fixture_keys::keys::{find, number_or, signed_in};
@@ -29,6 +31,8 @@ pub struct Starting {
     pub device_power_cycles: u32,
     /// What each sensor has measured, in their order: nothing, where there is none (section 10.7.2).
     pub presents: ArrayVec<Option<i16>, 8>,
+    /// What each sensor shows over time, in their order: no points, where nothing is said of it.
+    pub courses: ArrayVec<Course, 8>,
 }
 
 impl Starting {
@@ -46,6 +50,7 @@ impl Starting {
             lamp_strikes: 0,
             device_power_cycles: 0,
             presents,
+            courses: no_courses(sensors),
         }
     }
 }
@@ -97,5 +102,6 @@ pub(crate) fn values_at_start(table: &Table) -> Result<Starting, Refusal>
         lamp_strikes: number_or(table, "lamp_strikes", 0, 0, 0xFFFF_FFFF)?,
         device_power_cycles: number_or(table, "device_power_cycles", 0, 0, 0xFFFF_FFFF)?,
         presents: list(table, "sensor", 0, 0)?,
+        courses: list(table, "sensor", 0, 0)?,
     })
 }

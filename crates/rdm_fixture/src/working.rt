@@ -5,13 +5,16 @@ ghost use Rattle.std.specs.List.{list_any, list_all};
 ghost use Rattle.rdm_profile.specs.LeftOut.{leaves_out};
 ghost use Rattle.rdm_fixture.specs.Drafts.{fixture_with};
 ghost use Rattle.rdm_fixture_keys.specs.Faults.{told};
+ghost use Rattle.rdm_fixture.specs.OverTime.{can_run};
 ghost use Rattle.rdm_fixture.specs.Working as spec;
 ghost use Rattle.rdm_outcomes.specs.declared.rule.Task.TheVariants as tasks;
 ghost use Rattle.rdm_params.specs.Table.Kinds.{pid_of};
 
+use crate::courses::say_nothing;
 use crate::fixture::Fixture;
 use crate::profile::Apart;
 use crate::starting::Starting;
+use rdm_courses::Course;
 use rdm_device::{Profile, SelfTest, SensorDef, StatusText, can_hold, can_open};
 use rdm_fixture_keys::{Agreement, Refusal, Wanted};
 use rdm_outcomes::{Rule, Task};
@@ -190,7 +193,9 @@ fn tells_sensors(without: &[u16], sensors: &[SensorDef]) -> bool
 fn can_start_so(without: &[u16], start: &Starting) -> bool
     ensures { result ≡ spec.can_start_so without.now start.now }
 {
-    can_count_all(without, start) && can_measure(without, start.presents.as_slice())
+    can_count_all(without, start)
+        && (can_measure(without, start.presents.as_slice())
+            && can_run(without, start.courses.as_slice()))
 }
 
 fn can_count_all(without: &[u16], start: &Starting) -> bool
@@ -214,6 +219,13 @@ fn can_measure(without: &[u16], presents: &[Option<i16>]) -> bool
     ensures { result ≡ spec.can_measure without.now presents.now }
 {
     !is_left_out(without, Kind::SensorValue.pid()) || have_measured_nothing(presents)
+}
+
+/// Whether what the sensors show over time can be read, if something is said of it.
+fn can_run(without: &[u16], courses: &[Course]) -> bool
+    ensures { result ≡ can_run without.now courses.now }
+{
+    !is_left_out(without, Kind::SensorValue.pid()) || say_nothing(courses)
 }
 
 fn have_measured_nothing(presents: &[Option<i16>]) -> bool

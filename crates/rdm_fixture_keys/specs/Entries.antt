@@ -39,9 +39,9 @@ abbrev pub sensor_keys : List (List ℕ)
 sensor_keys =
     codes "type" ∷ codes "unit" ∷ codes "prefix" ∷ codes "range_minimum_value" ∷ codes "range_maximum_value"
     ∷ codes "normal_minimum_value" ∷ codes "normal_maximum_value" ∷ codes "recorded_value_support"
-    ∷ codes "description" ∷ codes "answered_at_once" ∷ codes "present" ∷ []
+    ∷ codes "description" ∷ codes "answered_at_once" ∷ codes "present" ∷ codes "over_time" ∷ codes "course" ∷ codes "repeats" ∷ []
 
--- What it measures is no part of what it is. Sections 10.7.1 and 10.7.2.
+-- What it measures, and shows over time, is no part of what it is. Sections 10.7.1 and 10.7.2.
 pub record IsSensor (t : Members) (s : SensorDef) : Type 0 where
   pub keys : IsTrue (has_only sensor_keys t)
   pub kind : Must t (codes "type") (named Sensors) s.kind

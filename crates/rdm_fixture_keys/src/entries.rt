@@ -76,6 +76,9 @@ pub fn sensor(table: &Table) -> Result<SensorDef, Refusal>
             "description",
             "answered_at_once",
             "present",
+            "over_time",
+            "course",
+            "repeats",
         ],
     )?;
     Ok(SensorDef {

@@ -170,6 +170,22 @@ fn vain_fault(agreement: Agreement) -> &'static str {
             "is manufacturer-specific (0x8000 or greater), so a [[status]] must describe it"
         }
         Agreement::Sensors => "omits SENSOR_DEFINITION, but the file has a [[sensor]]",
+        _ => course_fault(agreement),
+    }
+}
+
+/// The same of what a sensor shows over time.
+fn course_fault(agreement: Agreement) -> &'static str {
+    match agreement {
+        Agreement::Points => {
+            "must be a list of at most 16 points, each a table such as { at = 60, value = 25 }"
+        }
+        Agreement::Rising => "must have its points in ascending order of `at`, no two at one time",
+        Agreement::Way => "must be steps or ramp",
+        Agreement::Rounds => "needs at least two points in `over_time`, the first with `at = 0`",
+        Agreement::AtOnce => {
+            "needs `answered_at_once = true`: jobs measure any other sensor ([[outcome]] has their readings)"
+        }
         _ => "omits a parameter for which the file has a starting value",
     }
 }

@@ -102,6 +102,16 @@ pub enum Agreement {
     Sensors,
     /// With the starting values: the parameters that show them stay.
     Started,
+    /// With each other: a list of points, a table each (E1.20 section 10.7.2).
+    Points,
+    /// With each other: points in the order of their times.
+    Rising,
+    /// With the points: one of the ways from one to the next.
+    Way,
+    /// With the points: `true` only where there are two or more, and the first is at 0.
+    Rounds,
+    /// With the sensor: points only where it is answered at once.
+    AtOnce,
 }
 
 /// An entry of a list.

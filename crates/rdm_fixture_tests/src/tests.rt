@@ -17,6 +17,7 @@ mod starting;
 mod values;
 mod workers;
 
+use rdm_courses::{Course, Point};
 use rdm_device::{ChoiceName, Estimates, Field, Lock, ParameterDef, SensorDef, Workers};
 use rdm_fixture::{Fixture, Starting, shown_at_start};
 use std::alloc::{AllocError, Global};
@@ -51,6 +52,8 @@ enum Part {
     Start,
     /// What is placed for each sensor.
     Sensors,
+    /// What each sensor shows over time.
+    Courses,
 }
 
 /// Rows of one kind.
@@ -143,6 +146,7 @@ fn part_of(alloc: Global, part: Part, fixture: &Fixture) -> Result<String, Alloc
         Part::Choices => choices_text(alloc, profile.particulars.choices()),
         Part::Start => start_text(alloc, fixture),
         Part::Sensors => sensors_text(alloc, profile.sensors.as_slice()),
+        Part::Courses => courses_text(alloc, fixture.start.courses.as_slice()),
     }
 }
 
@@ -172,6 +176,29 @@ fn start_text(alloc: Global, fixture: &Fixture) -> Result<String, AllocError> {
         "{} {} {} {} {presents:?}, nothing: {is_nothing}",
         start.device_hours, start.lamp_hours, start.lamp_strikes, start.device_power_cycles
     )
+}
+
+fn courses_text(alloc: Global, courses: &[Course]) -> Result<String, AllocError> {
+    let mut lines = String::new(alloc);
+    for course in courses {
+        let points = points_text(alloc, course.points.as_slice())?;
+        let way = course.way;
+        let repeats = course.repeats;
+        let line = format!(in alloc; "[{points}] {way:?} {repeats}")?;
+        put_line(&mut lines, &line)?;
+    }
+    Ok(lines)
+}
+
+fn points_text(alloc: Global, points: &[Point]) -> Result<String, AllocError> {
+    let mut text = String::new(alloc);
+    for point in points {
+        let Point { at, value } = point;
+        let comma = if text.is_empty() { "" } else { ", " };
+        let more = format!(in alloc; "{comma}{at}: {value}")?;
+        text.push_str(&more)?;
+    }
+    Ok(text)
 }
 
 /// Puts a line at the end of others.

@@ -1,5 +1,6 @@
 //! A fixture by a clock that tells what a test wants, on lines that are lists of bytes.
 
+mod courses;
 mod faults;
 mod rig;
 mod streams;

@@ -1,6 +1,7 @@
 //! `felosumay fixture`: what a fixture's file describes, and the names that it can have.
 
 use clap::ArgMatches;
+use rdm_courses::{Course, Point, Way};
 use rdm_fixture::Fixture;
 use rdm_host::fault::Fault;
 use rdm_host::fixture::FixtureFile;
@@ -47,5 +48,32 @@ fn print_fixture<'a, H: Host>(rt: H, fixture: &Fixture) -> Result<(), Fault<'a>>
     let mut words = Vec::new(rt.alloc());
     let rules = fixture.outcomes.as_slice();
     put_fixture(&mut words, fixture.uid, &fixture.profile, rules)?;
-    print(rt, words.as_slice())
+    print(rt, words.as_slice())?;
+    let mut text = String::new(rt.alloc());
+    for (number, course) in fixture.start.courses.iter().enumerate() {
+        put_course(&mut text, number, course)?;
+    }
+    print(rt, text.as_bytes())
+}
+
+/// What a sensor shows over time, if something is said of it.
+fn put_course(text: &mut String, number: usize, course: &Course) -> Result<(), AllocError> {
+    if course.points.is_empty() {
+        return Ok(());
+    }
+    let way = match course.way {
+        Way::Steps => "by steps",
+        Way::Ramp => "by a ramp",
+    };
+    write!(text, "sensor {number} over time, {way}: ")?;
+    for (index, point) in course.points.iter().enumerate() {
+        let comma = if index == 0 { "" } else { ", " };
+        let Point { at, value } = point;
+        write!(text, "{comma}{value} at {at} s")?;
+    }
+    text.push_str(if course.repeats {
+        ", and again from there\n"
+    } else {
+        "\n"
+    })
 }

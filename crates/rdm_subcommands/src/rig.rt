@@ -1,6 +1,8 @@
 //! The rig of `felosumay widget`: the fixtures that are asked for, on one line.
 
+use arrayvec::ArrayVec;
 use clap::ArgMatches;
+use rdm_courses::{Course, MOST_POINTS, Point};
 use rdm_device::Profile;
 use rdm_fixture::{Fixture, Starting, shown_at_start};
 use rdm_frame::Uid;
@@ -11,7 +13,8 @@ use rdm_host::host::Host;
 use rdm_host::source::Source;
 use rdm_line::{Collision, JoinError, Line};
 use rdm_params::Kind;
-use rdm_widget::LiveFixture;
+use rdm_widget::{LiveFixture, SensorCourse};
+use std::alloc::{AllocError, Global};
 
 /// How many results of slow commands there is room for in a fixture.
 const QUEUE_SIZE: u16 = 8;
@@ -202,20 +205,60 @@ pub(crate) fn live<'a, H: Host>(
     for sensor in shown.iter().flatten() {
         place(&mut live, Kind::SensorValue, sensor);
     }
+    live.follow(followed(rt.alloc(), &start)?);
     Ok(live)
 }
 
-/// What the sensors show of which something is said.
+/// The sensors that show something over time.
+fn followed(alloc: Global, start: &Starting) -> Result<Vec<SensorCourse>, AllocError> {
+    let mut followed = Vec::new(alloc);
+    for sensor in 0..8u8 {
+        if let Some(course) = start.courses.get(usize::from(sensor))
+            && !course.points.is_empty()
+        {
+            let course = copied_course(course);
+            followed.push(SensorCourse { sensor, course })?;
+        }
+    }
+    Ok(followed)
+}
+
+/// The same course again.
+fn copied_course(course: &Course) -> Course {
+    Course {
+        points: copied_points(&course.points),
+        way: course.way,
+        repeats: course.repeats,
+    }
+}
+
+/// The same points again.
+fn copied_points(points: &ArrayVec<Point, MOST_POINTS>) -> ArrayVec<Point, MOST_POINTS> {
+    match ArrayVec::try_from(points.as_slice()) {
+        Ok(points) => points,
+        // A list of so many places holds no more.
+        Err(_) => unreachable!(),
+    }
+}
+
+/// What the sensors show of which something is said: what they have measured, or the first of what they show over time.
 pub(crate) fn shown_by(profile: &Profile, start: &Starting) -> [Option<[u8; 9]>; 8] {
     let mut shown = [None; 8];
     for number in 0..8u8 {
         let n = usize::from(number);
-        let present = start.presents.get(n).copied().flatten();
+        let present = present_of(start, n);
         if let (Some(present), Some(sensor)) = (present, profile.sensors.get(n)) {
             shown[n] = Some(shown_at_start(number, present, sensor));
         }
     }
     shown
+}
+
+/// What a sensor shows when the fixture is switched on, if something is said of it.
+fn present_of(start: &Starting, number: usize) -> Option<i16> {
+    let present = start.presents.get(number).copied().flatten();
+    let course = start.courses.get(number);
+    present.or_else(|| Some(course?.points.first()?.value))
 }
 
 /// Places what the counters show, unless it is what they show anyway.

@@ -4,3 +4,4 @@ pub mod Reports
 pub mod Ready
 pub mod Ends
 pub mod Rigs
+pub mod Measured

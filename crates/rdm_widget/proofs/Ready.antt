@@ -15,7 +15,7 @@ use Rattle.rdm_responder.proofs.Accounts.{account_of-then}
 use Rattle.rdm_responder.proofs.Growth.{Grows, event_grows}
 use Rattle.rdm_widget.specs.declared.live_fixture.ending.Ended.{Ended}
 use Rattle.rdm_params.specs.Device.Parameters.{Parameters}
-use Rattle.rdm_widget.specs.LiveFixtures.{Situation, worker_in, oldest_of, ended_by, earlier, first_ended, report_of, after_report, after_ended, after_next, after_several, since_when, begun, ready, NoneHasEnded}
+use Rattle.rdm_widget.specs.LiveFixtures.{Situation, worker_in, oldest_of, ended_by, earlier, first_ended, report_of, after_report, after_ended, after_next, after_several, since_when, begun, reported, up_to_date, ready, NoneHasEnded}
 use Rattle.rdm_widget.proofs.Reports.{first_is, which}
 
 -- ---- where none has ended
@@ -121,7 +121,10 @@ begun_none now s none =
       second = since_none (values_of s.history) now 1 s.second_since (oldest_of s.history 1) both.1;
     }
 
-pub none_has_ended : (now : ℕ) (s : Situation) → NoneHasEnded now (ready now s)
-none_has_ended now s =
+reported_none : (now : ℕ) (s : Situation) → NoneHasEnded now (reported now s)
+reported_none now s =
     begun_none now (after_several (outstanding_count (outbox_of s.history)) now s)
     (all_reported (outstanding_count (outbox_of s.history)) now s (omega arith))
+
+pub none_has_ended : (now : ℕ) (s : Situation) → NoneHasEnded now (ready now s)
+none_has_ended now s = reported_none now (up_to_date now s)

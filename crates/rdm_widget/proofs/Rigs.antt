@@ -17,9 +17,10 @@ use Rattle.rdm_line.specs.Hearing.{answers, hears, heard_by}
 use Rattle.rdm_line.specs.Line.{State, StandFor, uids_of}
 use Rattle.rdm_widget.specs.declared.live_fixture.LiveFixture.{LiveFixture}
 use Rattle.rdm_widget.specs.declared.live_fixture.ending.Ended.{Ended}
-use Rattle.rdm_widget.specs.LiveFixtures.{Situation, IsIn, reported_in, first_ended, after_ended, after_next, after_several, ready}
+use Rattle.rdm_widget.specs.LiveFixtures.{Situation, IsIn, reported_in, first_ended, after_ended, after_next, after_several, up_to_date, ready}
 use Rattle.rdm_widget.specs.Rigs.{Rig, IsRig, histories, after_line, from_wire}
 use Rattle.rdm_widget.specs.Timing.{Timing, timing_of}
+use Rattle.rdm_widget.proofs.Measured.{courses_setup}
 use Rattle.rdm_widget.proofs.Reports.{reported-heard}
 
 -- ---- what the clock does
@@ -36,7 +37,8 @@ several_setup (suc n) now s = several_setup n now (after_next now s) ∙ ended_s
 pub ready_uids : (now : ℕ) (ss : List Situation) → uids_of (histories (map (ready now) ss)) ≡ uids_of (histories ss)
 ready_uids now [] = refl
 ready_uids now (s ∷ ss) =
-    ap (λ (setup : Setup). setup.uid ∷ uids_of (histories (map (ready now) ss))) (several_setup (outstanding_count (outbox_of s.history)) now s)
+    ap (λ (setup : Setup). setup.uid ∷ uids_of (histories (map (ready now) ss)))
+    (several_setup (outstanding_count (outbox_of (up_to_date now s).history)) now (up_to_date now s) ∙ courses_setup s.looked now s.courses s.history)
     ∙ ap (λ (l : List Uid). s.history.setup.uid ∷ l) (ready_uids now ss)
 
 -- what the clock makes of a fixture
@@ -87,6 +89,8 @@ heard_if d e s bytes true is stands uid kept = record {
       (subst (λ (l : List Job). HasEnded d.planned s.rules l) (sym (reported-heard s.history.events bytes)) is.planned);
   first = ap (λ (t : Timing). t.first_since) kept ∙ is.first;
   second = ap (λ (t : Timing). t.second_since) kept ∙ is.second;
+  courses = ap (λ (t : Timing). t.courses) kept ∙ is.courses;
+  looked = ap (λ (t : Timing). t.looked) kept ∙ is.looked;
 }
 heard_if d e s bytes false is stands uid kept = record {
   uid = uid;
@@ -94,6 +98,8 @@ heard_if d e s bytes false is stands uid kept = record {
   planned = subst (λ (p : Planned). HasEnded p s.rules (reported_in s.history.events)) (sym (ap (λ (t : Timing). t.planned) kept)) is.planned;
   first = ap (λ (t : Timing). t.first_since) kept ∙ is.first;
   second = ap (λ (t : Timing). t.second_since) kept ∙ is.second;
+  courses = ap (λ (t : Timing). t.courses) kept ∙ is.courses;
+  looked = ap (λ (t : Timing). t.looked) kept ∙ is.looked;
 }
 
 all_heard : (bytes : List ℕ) (ds es : List LiveFixture) (ss : List Situation) → AllZip IsIn ds ss → AllZip Stands es (map (heard_by bytes) (histories ss)) → map timing_of es ≡ map timing_of ds

@@ -1,3 +1,4 @@
 pub mod LiveFixtures
+pub mod Measuring
 pub mod Rigs
 pub mod Timing

@@ -15,19 +15,27 @@ use Rattle.rdm_responder.specs.Runs.{outbox_of}
 use Rattle.rdm_responder.specs.StandsFor.{StandsFor}
 use Rattle.rdm_widget.specs.declared.live_fixture.LiveFixture.{LiveFixture}
 use Rattle.rdm_widget.specs.declared.live_fixture.ending.Ended.{Ended}
+use Rattle.rdm_widget.specs.declared.live_fixture.measuring.SensorCourse.{SensorCourse}
+use Rattle.rdm_widget.specs.Measuring.{after_courses}
 use Rattle.rdm_messages.specs.Hearing.{Hearing}
 
--- By which rules jobs end, what has happened to the responder, and since when each worker is at its oldest job. A worker
--- without a job may begin one from then on.
+-- By which rules jobs end, what sensors show over time, what has happened to the responder, since when each worker is at its oldest job,
+-- and until when the sensors have been looked at, if they were. A worker without a job may begin one from then on.
 pub record Situation : Type 0 where
   pub rules : List Rule
+  pub courses : List SensorCourse
   pub history : History
   pub first_since : ℕ
   pub second_since : ℕ
+  pub looked : Option ℕ
 
 -- the fixture is switched on
 abbrev pub switched_on : List Rule → Setup → Situation
-switched_on rules setup = record { rules = rules; history = empty_history setup; first_since = 0; second_since = 0 }
+switched_on rules setup = record { rules = rules; courses = []; history = empty_history setup; first_since = 0; second_since = 0; looked = None }
+
+-- its sensors are to follow these courses
+abbrev pub following : List SensorCourse → Situation → Situation
+following courses s = record s { courses = courses }
 
 -- ---- when jobs end
 
@@ -116,8 +124,18 @@ begun now s = record s {
 }
 
 -- All jobs that have ended by now are reported, in the order in which they ended.
+abbrev pub reported : ℕ → Situation → Situation
+reported now s = begun now (after_several (outstanding_count (outbox_of s.history)) now s)
+
+-- ---- what sensors show over time
+
+-- the sensors have shown by now what their courses say
+abbrev pub up_to_date : ℕ → Situation → Situation
+up_to_date now s = record s { history = after_courses s.looked now s.courses s.history; looked = Some now }
+
+-- Before a request is heard, the sensors show what they are to, and then the jobs that have ended are reported.
 abbrev pub ready : ℕ → Situation → Situation
-ready now s = begun now (after_several (outstanding_count (outbox_of s.history)) now s)
+ready now s = reported now (up_to_date now s)
 
 -- ---- what happens beside
 
@@ -145,8 +163,10 @@ pub record IsIn (d : LiveFixture) (s : Situation) : Type 0 where
   pub planned : HasEnded d.planned s.rules (reported_in s.history.events)
   pub first : d.first_since ≡ s.first_since
   pub second : d.second_since ≡ s.second_since
+  pub courses : d.courses.items ≡ s.courses
+  pub looked : d.looked ≡ s.looked
 
--- A fixture on a line: before it hears a request, the reports of the jobs that have ended by then are handed in.
+-- A fixture on a line: before it hears a request, it is made ready.
 abbrev pub fixture_hearing : Hearing LiveFixture Situation
 fixture_hearing = record {
   is_in = IsIn;

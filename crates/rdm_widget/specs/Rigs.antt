@@ -37,7 +37,7 @@ pub record IsRig (line : State LiveFixture) (rig : Rig) : Type 0 where
   pub uids : uids_of (histories rig.fixtures) ≡ line.uids
   pub each : AllZip IsIn line.devices rig.fixtures
 
--- A rig on a line: before a request is heard, the reports of the jobs of all fixtures that have ended by then are handed in.
+-- A rig on a line: before a request is heard, all fixtures are made ready.
 abbrev pub rig_hearing : Hearing (State LiveFixture) Rig
 rig_hearing = record {
   is_in = IsRig;

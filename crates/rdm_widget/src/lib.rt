@@ -16,7 +16,7 @@ pub use laws::{
     no_job_is_overdue, requests_are_answered, rig_of_one_replies_as_its_fixture,
     serve_errors_are_equal_by_value,
 };
-pub use live_fixture::LiveFixture;
+pub use live_fixture::{LiveFixture, SensorCourse};
 pub use on_line::OnLine;
 pub use rdm_messages::{
     Clock, Front, MOST_BODY, MessageView, Packet, RealClock, front_of, packet_of,

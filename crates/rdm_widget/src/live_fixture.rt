@@ -12,13 +12,16 @@ ghost use Rattle.rdm_responder.specs.Runs.{IsChange, outbox_of};
 ghost use Rattle.rdm_responder.specs.Settings.{HasBadProfile, HasBadSize, HasBadUid, setup_with, usual_settings};
 ghost use Rattle.rdm_responder.specs.StandsFor.{StandsFor};
 ghost use Rattle.rdm_saved.specs.Restoring.{restore_refusal};
-ghost use Rattle.rdm_widget.specs.LiveFixtures.{Situation, IsIn, switched_on, worker_in, oldest_of, first_ended, after_report, after_next, after_several, begun, ready, after_heard, after_panel, after_placing, after_restore};
+ghost use Rattle.rdm_widget.specs.LiveFixtures.{Situation, IsIn, switched_on, worker_in, oldest_of, first_ended, after_report, after_next, after_several, begun, reported, following, up_to_date, ready, after_heard, after_panel, after_placing, after_restore};
 
 mod ending;
+mod measuring;
 mod on_rig;
 
 use arrayvec::ArrayVec;
 use ending::{Ended, earlier, ended_by, since_after, since_when};
+pub use measuring::SensorCourse;
+use measuring::follow_all;
 use rdm_frame::{Uid, Wire};
 use rdm_outcomes::{MOST_RULES, Planned, Rule, outcomes_fit};
 use rdm_params::{Change, Message, PlaceError, Profile, started_work_is_its_command};
@@ -35,6 +38,10 @@ pub struct LiveFixture {
     // Since when each worker is at its oldest job, in milliseconds.
     first_since: u64,
     second_since: u64,
+    // What sensors show over time.
+    courses: Vec<SensorCourse>,
+    // Until when they have been looked at, in milliseconds, if they were.
+    looked: Option<u64>,
 }
 
 impl LiveFixture {
@@ -61,9 +68,18 @@ impl LiveFixture {
                 planned: Planned::new(rules),
                 first_since: 0,
                 second_since: 0,
+                courses: Vec::new(alloc),
+                looked: None,
             }),
             Err(error) => Err(error),
         }
+    }
+
+    /// Has sensors follow these courses from now on, whose times are since power-on. A sensor that a job measures follows none.
+    pub fn follow(&mut self, courses: Vec<SensorCourse>)
+        ensures { (s : Situation) → IsIn self.old s → IsIn self.new (following courses.items s) }
+    {
+        self.courses = courses;
     }
 
     /// Changes a parameter of the root, as a person does at the fixture's own menu. The message of it waits to be told as any
@@ -130,9 +146,30 @@ impl LiveFixture {
         self.responder.step_into(request, reply).replied
     }
 
-    /// Hands in the reports of all jobs that have ended by now. A worker that has none left may begin one.
+    /// Makes the fixture what it is at this time: sensors show what they are to, and jobs that have ended are reported.
     pub(crate) fn make_ready(&mut self, now: u64)
         ensures { (s : Situation) → IsIn self.old s → IsIn self.new (ready now s) }
+    {
+        self.follow_courses(now);
+        self.report_all(now);
+    }
+
+    /// Has the sensors measure what their courses say since the last look.
+    fn follow_courses(&mut self, now: u64)
+        ensures { (s : Situation) → IsIn self.old s → IsIn self.new (up_to_date now s) }
+    {
+        follow_all(
+            &mut self.responder,
+            self.courses.as_slice(),
+            self.looked,
+            now,
+        );
+        self.looked = Some(now);
+    }
+
+    /// Hands in the reports of all jobs that have ended by now. A worker that has none left may begin one.
+    fn report_all(&mut self, now: u64)
+        ensures { (s : Situation) → IsIn self.old s → IsIn self.new (reported now s) }
     {
         self.report_ended(now);
         self.begin(now);

@@ -40,7 +40,7 @@ struct Arrival {
 }
 
 impl Errand<LiveFixture> for Arrival {
-    // The reports of the jobs that have ended by then are handed in.
+    // Each fixture is made ready for it.
     ghost does = { λ time before after. (s : Situation) → IsIn before s → IsIn after (ready time.now s) };
 
     fn run(&self, device: &mut LiveFixture) {

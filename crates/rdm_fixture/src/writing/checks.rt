@@ -2,9 +2,11 @@
 
 ghost use Rattle.std.specs.Prelude.{◌≡◌, ◌↔◌, ◌≤◌, IsTrue, All, length};
 ghost use Rattle.rdm_fixture.specs.Describable as spec;
+ghost use Rattle.rdm_fixture.specs.OverTime.{AreCourses};
 ghost use Rattle.rdm_fixture.specs.Working as spec_of_work;
 ghost use Rattle.rdm_fixture_keys.specs.Values.{is_letter as is_small_letter};
 
+use crate::courses::are_courses;
 use crate::fixture::Fixture;
 use crate::parameters::{can_reset, greatest_of, least_of};
 use crate::working::can_work;
@@ -33,11 +35,16 @@ pub(super) fn can_be_described(fixture: &Fixture) -> bool
         && starts_and_works(fixture)
 }
 
-/// Whether it says of each sensor, and of no other, what it has measured, and nothing in vain.
+/// Whether it says of each sensor, and of no other, what it has measured and what it shows over time, and nothing in vain.
 fn starts_and_works(fixture: &Fixture) -> bool
-    ensures { IsTrue result ↔ ((length fixture.now.start.presents.items ≡ length fixture.now.profile.sensors.items) × spec_of_work.CanWork fixture.now) }
+    ensures { IsTrue result ↔ ((length fixture.now.start.presents.items ≡ length fixture.now.profile.sensors.items)
+        × AreCourses fixture.now.start.courses.items fixture.now.profile.sensors.items × spec_of_work.CanWork fixture.now) }
 {
-    fixture.start.presents.len() == fixture.profile.sensors.len() && can_work(fixture)
+    fixture.start.presents.len() == fixture.profile.sensors.len()
+        && (are_courses(
+            fixture.start.courses.as_slice(),
+            fixture.profile.sensors.as_slice(),
+        ) && can_work(fixture))
 }
 
 // ---- the parameters that the profile adds

@@ -27,9 +27,10 @@ use rdm_params::kind_of;
 use std::alloc::{AllocError, Global};
 use toml::{Table, Value};
 
-/// The table of the fixture, of which each sensor has something measured or nothing.
+/// The table of the fixture, of which each sensor has something measured or nothing, and a course or none.
 pub(super) fn table_of(alloc: Global, fixture: &Fixture) -> Result<Table, AllocError>
-    requires { length fixture.now.start.presents.items ≡ length fixture.now.profile.sensors.items }
+    requires presents { length fixture.now.start.presents.items ≡ length fixture.now.profile.sensors.items }
+    requires courses { length fixture.now.start.courses.items ≡ length fixture.now.profile.sensors.items }
     ensures says { IfOk result (λ t. CanBeDescribed fixture.now → IsFixture (table_view t) fixture.now) }
     ensures plain { IfOk result (λ t. IsPlain 5 (table_data (table_view t))) }
 {
@@ -40,7 +41,8 @@ pub(super) fn table_of(alloc: Global, fixture: &Fixture) -> Result<Table, AllocE
 
 /// What is put beside what the root says of itself. The table is lent, so that this has only values to drop where memory is missing.
 fn put_rest(alloc: Global, table: &mut Table, fixture: &Fixture) -> Result<(), AllocError>
-    requires { length fixture.now.start.presents.items ≡ length fixture.now.profile.sensors.items }
+    requires presents { length fixture.now.start.presents.items ≡ length fixture.now.profile.sensors.items }
+    requires courses { length fixture.now.start.courses.items ≡ length fixture.now.profile.sensors.items }
     ensures says { OnOk result (CanBeDescribed fixture.now → IsRoot (table_view table.old) fixture.now → IsFixture (table_view table.new) fixture.now) }
     ensures plain { OnOk result (IsPlain 3 (table_data (table_view table.old)) → IsPlain 5 (table_data (table_view table.new))) }
 {
@@ -75,6 +77,7 @@ fn put_rest(alloc: Global, table: &mut Table, fixture: &Fixture) -> Result<(), A
             alloc,
             profile.sensors.as_slice(),
             fixture.start.presents.as_slice(),
+            fixture.start.courses.as_slice(),
         )?,
     )?;
     put(

@@ -18,6 +18,16 @@ const TABLES: &[Table] = &[
         tables: "",
         rows: LACKED,
     },
+    Table {
+        part: Part::Fault,
+        tables: "",
+        rows: COURSES,
+    },
+    Table {
+        part: Part::Courses,
+        tables: "",
+        rows: FOLLOWED,
+    },
 ];
 
 #[test]
@@ -65,6 +75,9 @@ a fixture
 without = ["SENSOR_VALUE"]¶.. [[sensor]]¶type = 0¶present = 0
 line 1: `without` omits a parameter for which the file has a starting value
 
+without = ["SENSOR_VALUE"]¶.. [[sensor]]¶type = 0¶answered_at_once = true¶over_time = [{ at = 0, value = 0 }]
+line 1: `without` omits a parameter for which the file has a starting value
+
 without = ["SENSOR_DEFINITION", "SENSOR_VALUE", "RECORD_SENSORS"]¶..
 a fixture
 
@@ -73,3 +86,68 @@ line 1: `without` omits SENSOR_DEFINITION, but the file has a [[sensor]]
 
 ..
 a fixture"#;
+
+/// What is told of a sensor's course.
+const COURSES: &str =
+    r#"¶.. [[sensor]]¶type = 0¶answered_at_once = true¶over_time = []¶course = "steps"¶repeats = false
+a fixture
+
+¶.. [[sensor]]¶type = 0¶answered_at_once = true¶over_time = [{ at = 0, value = 0 }, { at = 1, value = 0 }, { at = 2, value = 0 }, { at = 3, value = 0 }, { at = 4, value = 0 }, { at = 5, value = 0 }, { at = 6, value = 0 }, { at = 7, value = 0 }, { at = 8, value = 0 }, { at = 9, value = 0 }, { at = 10, value = 0 }, { at = 11, value = 0 }, { at = 12, value = 0 }, { at = 13, value = 0 }, { at = 14, value = 0 }, { at = 15, value = 0 }]
+a fixture
+
+¶.. [[sensor]]¶type = 0¶answered_at_once = true¶over_time = [{ at = 0, value = 0 }, { at = 1, value = 0 }, { at = 2, value = 0 }, { at = 3, value = 0 }, { at = 4, value = 0 }, { at = 5, value = 0 }, { at = 6, value = 0 }, { at = 7, value = 0 }, { at = 8, value = 0 }, { at = 9, value = 0 }, { at = 10, value = 0 }, { at = 11, value = 0 }, { at = 12, value = 0 }, { at = 13, value = 0 }, { at = 14, value = 0 }, { at = 15, value = 0 }, { at = 16, value = 0 }]
+line 10: in sensor 1, `over_time` must be a list of at most 16 points, each a table such as { at = 60, value = 25 }
+
+¶.. [[sensor]]¶type = 0¶answered_at_once = true¶over_time = 5
+line 10: in sensor 1, `over_time` must be a list of at most 16 points, each a table such as { at = 60, value = 25 }
+
+¶.. [[sensor]]¶type = 0¶answered_at_once = true¶over_time = [5]
+line 10: in sensor 1, `over_time` must be a list of at most 16 points, each a table such as { at = 60, value = 25 }
+
+¶.. [[sensor]]¶type = 0¶answered_at_once = true¶over_time = [{ at = 0 }]
+line 10: in sensor 1, `over_time` must be a list of at most 16 points, each a table such as { at = 60, value = 25 }
+
+¶.. [[sensor]]¶type = 0¶answered_at_once = true¶over_time = [{ at = -1, value = 0 }]
+line 10: in sensor 1, `over_time` must be a list of at most 16 points, each a table such as { at = 60, value = 25 }
+
+¶.. [[sensor]]¶type = 0¶answered_at_once = true¶over_time = [{ at = 0, value = 32768 }]
+line 10: in sensor 1, `over_time` must be a list of at most 16 points, each a table such as { at = 60, value = 25 }
+
+¶.. [[sensor]]¶type = 0¶answered_at_once = true¶over_time = [{ at = 0, value = 0, until = 1 }]
+line 10: in sensor 1, `over_time` must be a list of at most 16 points, each a table such as { at = 60, value = 25 }
+
+¶.. [[sensor]]¶type = 0¶[[sensor]]¶type = 0¶answered_at_once = true¶over_time = [{ at = 7, value = 0 }, { at = 7, value = 1 }]
+line 12: in sensor 2, `over_time` must have its points in ascending order of `at`, no two at one time
+
+¶.. [[sensor]]¶type = 0¶over_time = [{ at = 0, value = 0 }]
+line 9: in sensor 1, `over_time` needs `answered_at_once = true`: jobs measure any other sensor ([[outcome]] has their readings)
+
+¶.. [[sensor]]¶type = 0¶course = "line"
+line 9: in sensor 1, `course` must be steps or ramp
+
+¶.. [[sensor]]¶type = 0¶course = 1
+line 9: in sensor 1, `course` must be steps or ramp
+
+¶.. [[sensor]]¶type = 0¶repeats = 1
+line 9: in sensor 1, `repeats` must be true or false
+
+¶.. [[sensor]]¶type = 0¶repeats = true
+line 9: in sensor 1, `repeats` needs at least two points in `over_time`, the first with `at = 0`
+
+¶.. [[sensor]]¶type = 0¶answered_at_once = true¶over_time = [{ at = 0, value = 0 }]¶repeats = true
+line 11: in sensor 1, `repeats` needs at least two points in `over_time`, the first with `at = 0`
+
+¶.. [[sensor]]¶type = 0¶answered_at_once = true¶over_time = [{ at = 1, value = 0 }, { at = 2, value = 0 }]¶repeats = true
+line 11: in sensor 1, `repeats` needs at least two points in `over_time`, the first with `at = 0`
+
+..
+a fixture"#;
+
+/// The points, the way and whether it repeats, of each sensor.
+const FOLLOWED: &str =
+    r#".. [[sensor]]¶type = 0¶[[sensor]]¶type = 0¶answered_at_once = true¶over_time = [{ at = 0, value = -5 }, { at = 4294967295, value = 32767 }]¶course = "ramp"¶repeats = true
+[] Steps false
+[0: -5, 4294967295: 32767] Ramp true
+
+.. [[sensor]]¶type = 0¶answered_at_once = true¶over_time = [{ at = 3, value = -32768 }]
+[3: -32768] Steps false"#;

@@ -9,10 +9,10 @@ use std::test::Fail;
 use std::time::{Duration, Instant};
 
 /// A request, when it comes, and the reply, both in hexadecimal digits.
-struct Turn {
-    at: u64,
-    asked: &'static str,
-    told: &'static str,
+pub(super) struct Turn {
+    pub(super) at: u64,
+    pub(super) asked: &'static str,
+    pub(super) told: &'static str,
 }
 
 /// SET LAMP_STATE, which takes 5 s, and half a second before its end GET SENSOR_VALUE, which takes half a second: both jobs end
@@ -95,7 +95,11 @@ fn serves(
 }
 
 /// What a fixture is asked in these turns is answered so.
-fn answers_in_time(rt: &(impl AllocGlobal + Abort), fixture: &mut LiveFixture, turns: &[Turn]) {
+pub(super) fn answers_in_time(
+    rt: &(impl AllocGlobal + Abort),
+    fixture: &mut LiveFixture,
+    turns: &[Turn],
+) {
     let mut input = Vec::new(rt.alloc());
     let mut told = Vec::new(rt.alloc());
     let mut times = Vec::new(rt.alloc());

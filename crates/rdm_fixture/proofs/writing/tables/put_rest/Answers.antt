@@ -6,6 +6,7 @@ use Rattle.rdm_fixture.specs.Format.{IsFixture, IsLocking, parameter_named}
 use Rattle.rdm_fixture.specs.Parameters.{IsParameter}
 use Rattle.rdm_fixture.specs.Lists.{ListAt, OfTable}
 use Rattle.rdm_fixture.specs.Outcomes.{IsOutcome}
+use Rattle.rdm_fixture.specs.OverTime.{IsCourse}
 use Rattle.rdm_fixture.specs.Starting.{SaysPresent}
 use Rattle.rdm_fixture.specs.Writing.{locking_of, IsPlain}
 use Rattle.rdm_fixture.proofs.WrittenFixtures.{fixture_members, fixture_says, fixture_plain, deeper, deeper_some}
@@ -26,13 +27,15 @@ returns-clause-says c = λ can rest.
     rw c.as_slice-2.ensures.value at (c.in_ok-sensors_of.ensures.sensors (rw c.as_slice-2.ensures.value (λ k d less. texts.sensors k d less))) in
     let presents : ListAt (OfTable SaysPresent) (option_map view c.in_ok-sensors_of.field-0) f.start.presents.items =
     rw c.as_slice-3.ensures.value at c.in_ok-sensors_of.ensures.presents in
+    let courses : ListAt (OfTable IsCourse) (option_map view c.in_ok-sensors_of.field-0) f.start.courses.items =
+    rw c.as_slice-4.ensures.value at (c.in_ok-sensors_of.ensures.courses (rw (c.as_slice-4.ensures.value, c.as_slice-2.ensures.value) can.courses)) in
     let sensors_fit : length f.profile.sensors.items ≤ 8 = omega (arith, ap length c.as_slice-2.ensures.value, c.as_slice-2.ensures.fits) in
     let tests : ListAt (OfTable IsSelfTest) (option_map view c.in_ok-list_of-2.field-0) f.profile.tests.items =
-    rw c.as_slice-4.ensures.value at (c.in_ok-list_of-2.ensures.says 0 (rw c.as_slice-4.ensures.value (λ k d less. (made.test_numbers k d less, texts.tests k d less)))) in
-    let tests_fit : length f.profile.tests.items ≤ 8 = omega (arith, ap length c.as_slice-4.ensures.value, c.as_slice-4.ensures.fits) in
+    rw c.as_slice-5.ensures.value at (c.in_ok-list_of-2.ensures.says 0 (rw c.as_slice-5.ensures.value (λ k d less. (made.test_numbers k d less, texts.tests k d less)))) in
+    let tests_fit : length f.profile.tests.items ≤ 8 = omega (arith, ap length c.as_slice-5.ensures.value, c.as_slice-5.ensures.fits) in
     let statuses : ListAt (OfTable IsStatus) (option_map view c.in_ok-list_of-3.field-0) f.profile.status_texts.items =
-    rw c.as_slice-5.ensures.value at (c.in_ok-list_of-3.ensures.says 0 (rw c.as_slice-5.ensures.value (λ k d less. texts.statuses k d less))) in
-    let statuses_fit : length f.profile.status_texts.items ≤ 8 = omega (arith, ap length c.as_slice-5.ensures.value, c.as_slice-5.ensures.fits) in
+    rw c.as_slice-6.ensures.value at (c.in_ok-list_of-3.ensures.says 0 (rw c.as_slice-6.ensures.value (λ k d less. texts.statuses k d less))) in
+    let statuses_fit : length f.profile.status_texts.items ≤ 8 = omega (arith, ap length c.as_slice-6.ensures.value, c.as_slice-6.ensures.fits) in
     let lacked : ListAt (λ d pid. parameter_named d ≡ Some pid) (option_map view c.in_ok-names_of.field-0) f.profile.particulars.without.items =
     rw c.without.ensures.value at (c.in_ok-names_of.ensures.says (rw c.without.ensures.value (made.without.optional.1))) in
     let lacked_fit : length f.profile.particulars.without.items ≤ 36 = omega (arith, ap length c.without.ensures.value, c.without.ensures.few) in
@@ -46,8 +49,8 @@ returns-clause-says c = λ can rest.
     rw c.locks.ensures.value at (c.in_ok-list_of-6.ensures.says 0 (rw c.locks.ensures.value (all_stated f.profile.particulars.own f.profile.particulars.locks made.locks.states))) in
     let locked_fit : length f.profile.particulars.locks ≤ 64 = omega (arith, ap length c.locks.ensures.value, c.locks.ensures.few) in
     let outcomes : ListAt (OfTable IsOutcome) (option_map view c.in_ok-list_of-7.field-0) f.outcomes.items =
-    rw c.as_slice-6.ensures.value at (c.in_ok-list_of-7.ensures.says 0 (rw c.as_slice-6.ensures.value (can.outcomes))) in
-    let outcomes_fit : length f.outcomes.items ≤ 32 = omega (arith, ap length c.as_slice-6.ensures.value, c.as_slice-6.ensures.fits) in
+    rw c.as_slice-7.ensures.value at (c.in_ok-list_of-7.ensures.says 0 (rw c.as_slice-7.ensures.value (can.outcomes))) in
+    let outcomes_fit : length f.outcomes.items ≤ 32 = omega (arith, ap length c.as_slice-7.ensures.value, c.as_slice-7.ensures.fits) in
     let whole = fixture_members f (table_view c.args.table.now) (view c.in_ok-uid_of.field-0) (view c.in_ok-languages_of.field-0)
     (option_map view c.in_ok-list_of.field-0) (option_map view c.in_ok-sensors_of.field-0) (option_map view c.in_ok-list_of-2.field-0) (option_map view c.in_ok-list_of-3.field-0) (option_map view c.in_ok-names_of.field-0) (option_map view c.in_ok-list_of-4.field-0) (option_map view c.in_ok-list_of-5.field-0) (option_map view c.in_ok-list_of-6.field-0) (option_map view c.in_ok-list_of-7.field-0) (option_map view c.in_ok-sub_devices_of.field-0) (option_map view c.in_ok-estimates_of.field-0) (option_map view c.in_ok-workers_of.field-0)
     _ _ _ _ _ _ _ _ _ _ _ _ _ _ _ _ _ _ (c.in_ok-put.ensures refl) (c.in_ok-put_long.ensures.put refl) (c.in_ok-put_text.ensures.put refl) (c.in_ok-put-2.ensures refl)
@@ -59,7 +62,7 @@ returns-clause-says c = λ can rest.
     can rest.keys rest.counted (λ n same. rest.unit n (rw same made.root) texts.root)
     (c.in_ok-uid_of.ensures.says can.own) c.put_long.ensures.says (c.put_text.ensures.says texts.boot)
     (c.in_ok-languages_of.ensures.says made.language can.languages)
-    slots slots_fit sensors sensors_fit presents tests tests_fit statuses statuses_fit lacked lacked_fit own own_fit named named_fit locked locked_fit outcomes outcomes_fit
+    slots slots_fit sensors sensors_fit presents courses tests tests_fit statuses statuses_fit lacked lacked_fit own own_fit named named_fit locked locked_fit outcomes outcomes_fit
     (c.in_ok-sub_devices_of.ensures.says can.made texts.sub) (rw c.estimates.ensures at c.in_ok-estimates_of.ensures.says) c.in_ok-workers_of.ensures.says)
 
 pub returns-clause-plain : goal.returns-clause-plain
@@ -76,7 +79,7 @@ returns-clause-plain c = λ rest.
     (deeper 3 5 _ (omega arith) rest)
     (deeper 0 4 _ (omega arith) c.in_ok-uid_of.ensures.plain) (deeper 1 4 _ (omega arith) c.in_ok-languages_of.ensures.plain)
     (deeper_some 2 4 _ (omega arith) (some_plain 2 c.in_ok-list_of.field-0 c.in_ok-list_of.ensures.plain))
-    (deeper_some 2 4 _ (omega arith) (some_plain 2 c.in_ok-sensors_of.field-0 c.in_ok-sensors_of.ensures.plain))
+    (some_plain 4 c.in_ok-sensors_of.field-0 c.in_ok-sensors_of.ensures.plain)
     (deeper_some 2 4 _ (omega arith) (some_plain 2 c.in_ok-list_of-2.field-0 c.in_ok-list_of-2.ensures.plain))
     (deeper_some 2 4 _ (omega arith) (some_plain 2 c.in_ok-list_of-3.field-0 c.in_ok-list_of-3.ensures.plain))
     (deeper_some 1 4 _ (omega arith) (some_plain 1 c.in_ok-names_of.field-0 c.in_ok-names_of.ensures.plain))

@@ -16,4 +16,6 @@ returns-clause-fixture c = λ s is.
           (sym (reported-heard (ready c.args.now s).history.events c.args.request.now)) made.planned;
       first = made.first;
       second = made.second;
+      courses = made.courses;
+      looked = made.looked;
     }

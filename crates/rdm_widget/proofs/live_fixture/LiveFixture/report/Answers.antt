@@ -39,4 +39,6 @@ returns c = λ s is oldest.
           subst (λ (l : List Job). HasEnded c.end-outcome.new.self s.rules l) (sym (reported-then s.history.events (report_of s c.args.ended.now.job))) counts.1;
       first = c.since_after-self.ensures ∙ ap (λ n. since_after 0 c.args.ended.now n) is.first;
       second = c.since_after-self-2.ensures ∙ ap (λ n. since_after 1 c.args.ended.now n) is.second;
+      courses = is.courses;
+      looked = is.looked;
     }

@@ -21,4 +21,6 @@ returns-clause-fixture c =
           subst (λ (l : List Job). HasEnded c.args.self.now.planned s.rules l) (sym (reported-restored s.history.events c.args.image.now)) is.planned;
       first = is.first;
       second = is.second;
+      courses = is.courses;
+      looked = is.looked;
     })
