@@ -49,15 +49,19 @@ value_at c now = shown c.way c.points.items (within_round c now)
 
 -- ---- what came since
 
--- A point that has come is new if nobody has looked yet, if it hadn't come at the last look, or if it came again in a later round.
-abbrev pub is_new : ℕ → Option ℕ → ℕ → Point → Bool
-is_new round None now p = true
-is_new round (Some looked) now p =
-    nat_lt looked (time_of p) || (not (round == 0) && nat_lt ((looked - time_of p) / round) ((now - time_of p) / round))
+-- What came first at this time, and again in each round, is new if nobody has looked yet, if it hadn't come at the last look, or if it
+-- came again in a later round.
+abbrev pub is_new : ℕ → Option ℕ → ℕ → ℕ → Bool
+is_new round None now first = true
+is_new round (Some looked) now first =
+    nat_lt looked first || (not (round == 0) && nat_lt ((looked - first) / round) ((now - first) / round))
 
 -- it has come by now, and since the last look
+abbrev pub comes : ℕ → Option ℕ → ℕ → ℕ → Bool
+comes round looked now first = nat_le first now && is_new round looked now first
+
 abbrev pub has_come : ℕ → Option ℕ → ℕ → Point → Bool
-has_come round looked now p = nat_le (time_of p) now && is_new round looked now p
+has_come round looked now p = comes round looked now (time_of p)
 
 -- the values of the points that have come since, each once, in their order
 abbrev pub values_come : ℕ → Option ℕ → ℕ → List Point → List ℤ

@@ -231,14 +231,20 @@ fn values_come(
 fn has_come(round: u64, looked: Option<u64>, now: u64, point: &Point) -> bool
     ensures { result ≡ says.has_come round looked now point.now }
 {
-    let first = time_of(point);
+    comes(round, looked, now, time_of(point))
+}
+
+/// Whether what comes first at this time, and again in each round, has come by now, and since the look.
+pub(crate) fn comes(round: u64, looked: Option<u64>, now: u64, first: u64) -> bool
+    ensures { result ≡ says.comes round looked now first }
+{
     first <= now && is_new(round, looked, now, first)
 }
 
-/// Whether a point that comes at this time first is new since the look.
+/// Whether it is new since the look.
 fn is_new(round: u64, looked: Option<u64>, now: u64, first: u64) -> bool
     requires { first ≤ now }
-    ensures { (p : Point) → says.time_of p ≡ first → result ≡ says.is_new round looked now p }
+    ensures { result ≡ says.is_new round looked now first }
 {
     match looked {
         Some(looked) => {

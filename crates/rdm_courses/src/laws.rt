@@ -2,7 +2,8 @@
 
 ghost use Rattle.std.specs.Prelude.{◌≡◌, ◌↔◌, IsTrue};
 
-use crate::{Course, Point, Way};
+use crate::{Course, Notice, Point, Way};
+use rdm_frame::severities_are_equal_by_value;
 
 /// Two points are equal by `==` exactly when their times and their values are.
 pub fn points_are_equal_by_value()
@@ -20,4 +21,11 @@ pub fn courses_are_equal_by_value()
 {
     points_are_equal_by_value();
     ways_are_equal_by_value();
+}
+
+/// Two status messages are equal by `==` exactly when all that they say is, and when.
+pub fn notices_are_equal_by_value()
+    ensures { (a b : Notice) → IsTrue (⟦<Notice as PartialEq>⟧.eq a b) ↔ (a ≡ b) }
+{
+    severities_are_equal_by_value();
 }

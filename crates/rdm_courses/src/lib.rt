@@ -1,11 +1,17 @@
-//! What a sensor shows over time: a list of points, each a value at a time, and what is shown between them.
+//! What a fixture does over time by itself: what a sensor shows, a list of points, each a value at a time, and what is shown between them;
+//! and status messages that come at their times.
 //!
 //! `Course::value_at` says what is shown at a time, and `Course::has_come` whether a point has come since another time. The definitions
-//! are `specs/Courses.antt`.
+//! are `specs/Courses.antt` and `specs/Notices.antt`.
 #![tactic(auto)]
 
 mod course;
 mod laws;
+mod notice;
 
 pub use course::{Course, MOST_POINTS, MOST_SHOWN, Point, Way};
-pub use laws::{courses_are_equal_by_value, points_are_equal_by_value, ways_are_equal_by_value};
+pub use laws::{
+    courses_are_equal_by_value, notices_are_equal_by_value, points_are_equal_by_value,
+    ways_are_equal_by_value,
+};
+pub use notice::Notice;

@@ -55,6 +55,7 @@ start_of answers = record {
   device_power_cycles = long_at (data_of answers 0 0x0405 0) 0;
   presents = record { items = take 8 (presents_of answers) };
   courses = record { items = no_courses (take 8 (sensors_of answers)) };
+  notices = record { items = [] };
 }
 
 abbrev pub fixture_of : Uid → List Answer → Fixture

@@ -56,7 +56,7 @@ fn fixture_of(alloc: Global, uid: Uid, answers: &[Answer]) -> Result<Fixture, Al
     })
 }
 
-/// What its counters and its sensors show now. What sensors show over time no answer tells.
+/// What its counters and its sensors show now. What sensors show over time, and which status messages come, no answer tells.
 fn start_of(alloc: Global, answers: &[Answer]) -> Result<Starting, AllocError>
     ensures { IfOk result (λ s. s ≡ spec.start_of answers.now) }
 {
@@ -69,6 +69,7 @@ fn start_of(alloc: Global, answers: &[Answer]) -> Result<Starting, AllocError>
         device_power_cycles: long_at(data_of(answers, 0, 0x0405, 0), 0),
         presents: first_of(presents),
         courses: no_courses(&sensors),
+        notices: ArrayVec::new(),
     })
 }
 

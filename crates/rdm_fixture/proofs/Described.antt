@@ -24,11 +24,13 @@ use Rattle.rdm_fixture.specs.Outcomes.{IsOutcome, severity, only_number, done, f
 use Rattle.rdm_fixture.specs.Parameters.{IsParameter}
 use Rattle.rdm_fixture_keys.specs.Entries.{IsPersonality, IsSlot, IsSensor, IsSelfTest, IsStatus, IsChoice}
 use Rattle.rdm_fixture.specs.Format.{IsUnit, SubDevices, LanguagesAt, IsProfile, SaysFixture}
+use Rattle.rdm_courses.specs.declared.notice.Notice.{Notice}
+use Rattle.rdm_fixture.specs.Notices.{IsNotice, comes_again}
 use Rattle.rdm_fixture.specs.OverTime.{IsCourse, AreCourses, misfit}
 use Rattle.rdm_fixture.specs.Starting.{SaysPresent}
 use Rattle.rdm_fixture.specs.Working.{CanWork}
 use Rattle.rdm_fixture.specs.Describes.{Describes}
-use Rattle.rdm_fixture.specs.Describable.{are_printable, HasPrintableUnit, HasPrintableTexts, is_coded, is_counted, is_base_form, is_told, is_ruled, is_sayable, CanBeDescribed}
+use Rattle.rdm_fixture.specs.Describable.{are_printable, HasPrintableUnit, HasPrintableTexts, is_coded, is_counted, is_base_form, is_told, is_ruled, is_noticed, is_sayable, CanBeDescribed}
 use Rattle.rdm_fixture.proofs.ListEntries.{slot_count-of}
 use Rattle.rdm_fixture.proofs.Made.{made, number_range, may_most, all_said, all_at, of_table}
 use Rattle.rdm_fixture.proofs.OneFixture.{one}
@@ -201,6 +203,21 @@ ruled t r h =
     and_both _ _ (counted (get_member (codes "job") t) r.turn h.turn)
     (and_both _ _ h.fits (told (get_member (codes "done") t) (get_member (codes "reading") t) (failed_in t) r.outcome failure h.outcome))
 
+-- ---- status messages
+
+again_of : (o : Option ℕ) (every : Option ℕ) → ((n : ℕ) → o ≡ Some n → 1 ≤ n) → option_map (λ n. Some n) o ≡ Some every → IsTrue (comes_again every)
+again_of None every some h = absurd (cc)
+again_of (Some n) every some h = ap comes_again (sym (same_Some _ _ h)) ∙ le-leb 1 n (some n refl)
+
+again : (found : Option Data) (every : Option ℕ) → may None (only_number 1 0xFFFFFFFF) found ≡ Some every → IsTrue (comes_again every)
+again None every h = ap comes_again (sym (same_Some _ _ h))
+again (Some d) every h = again_of (number 1 0xFFFFFFFF d) every (λ n is. (number_range 1 0xFFFFFFFF d n is).0) h
+
+noticed : (t : Members) (n : Notice) → IsNotice t n → IsTrue (is_noticed n)
+noticed t n h =
+    and_both _ _ (again (get_member (codes "every") t) n.every h.every)
+    (and_both _ _ (le-leb n.sub 512 (may_most 0 512 (get_member (codes "sub_device") t) n.sub (omega arith) h.sub)) (base (get_member (codes "severity") t) n.severity h.severity))
+
 -- ---- what sensors show over time
 
 -- a course fits the sensor that the same table says
@@ -256,6 +273,7 @@ describable t f said works = let profile = said.profile in record {
   presents = slot_count-of (OfTable SaysPresent) (get_member (codes "sensor") t) f.start.presents.items said.start.presents.items
       ∙ sym (slot_count-of (OfTable IsSensor) (get_member (codes "sensor") t) f.profile.sensors.items profile.sensors.items);
   courses = courses_of (get_member (codes "sensor") t) f.start.courses.items f.profile.sensors.items said.start.courses.items profile.sensors.items;
+  notices = all_at _ (λ n. IsTrue (is_noticed n)) (of_table IsNotice (λ n. IsTrue (is_noticed n)) noticed) (get_member (codes "status_message") t) _ said.start.notices.items;
   works = works;
 }
 

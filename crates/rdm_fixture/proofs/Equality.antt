@@ -7,6 +7,8 @@ use Rattle.std.proofs.lemmas.Bool.Decides.{Decides-and, Decides-like, Decides-eq
 use Rattle.std.proofs.lemmas.Slice.Eq.{slice_eq-Decides}
 use Rattle.arrayvec.specs.declared.array_vec.ArrayVec.{ArrayVec}
 use Rattle.rdm_courses.specs.declared.course.Course.{Course}
+use Rattle.rdm_courses.specs.declared.notice.Notice.{Notice}
+use Rattle.rdm_courses.specs.contracts.notice.NoticePartialEq.TheImpl as notices
 use Rattle.rdm_courses.specs.contracts.course.CoursePartialEq.TheImpl as courses
 use Rattle.rdm_frame.specs.contracts.uid.UidPartialEq.TheImpl as uids
 use Rattle.rdm_profile.specs.contracts.profile.ProfilePartialEq.TheImpl as profiles
@@ -44,19 +46,23 @@ courses_decide : IsByValue courses.ghosts.eq → (v w : ArrayVec Course 8 (Unit 
 courses_decide course v w =
     Decides-like _ (ap (listed 8)) (ap (λ (u : ArrayVec Course 8 (Unit {0})). u.items)) (slice_eq-Decides course v.items w.items _ refl)
 
-pub starting_decides : IsByValue courses.ghosts.eq → IsByValue starts.ghosts.eq
-starting_decides course a b =
-    Decides-like _ (λ e. same_starting e.0 e.1.0 e.1.1.0 e.1.1.1.0 e.1.1.1.1.0 e.1.1.1.1.1)
+notices_decide : IsByValue notices.ghosts.eq → (v w : ArrayVec Notice 16 (Unit {0})) → Decides (pointwise notices.ghosts.eq v.items w.items) (v ≡ w)
+notices_decide notice v w =
+    Decides-like _ (ap (listed 16)) (ap (λ (u : ArrayVec Notice 16 (Unit {0})). u.items)) (slice_eq-Decides notice v.items w.items _ refl)
+
+pub starting_decides : IsByValue courses.ghosts.eq → IsByValue notices.ghosts.eq → IsByValue starts.ghosts.eq
+starting_decides course notice a b =
+    Decides-like _ (λ e. same_starting e.0 e.1.0 e.1.1.0 e.1.1.1.0 e.1.1.1.1.0 e.1.1.1.1.1.0 e.1.1.1.1.1.1)
     (λ e. (
       ap (λ (s : Starting). s.device_hours) e,
       (
         ap (λ (s : Starting). s.lamp_hours) e,
-        (ap (λ (s : Starting). s.lamp_strikes) e, (ap (λ (s : Starting). s.device_power_cycles) e, (ap (λ (s : Starting). s.presents) e, ap (λ (s : Starting). s.courses) e))),
+        (ap (λ (s : Starting). s.lamp_strikes) e, (ap (λ (s : Starting). s.device_power_cycles) e, (ap (λ (s : Starting). s.presents) e, (ap (λ (s : Starting). s.courses) e, ap (λ (s : Starting). s.notices) e)))),
       ),
     ))
     (Decides-and _ _ (Decides-eqb a.device_hours b.device_hours) (Decides-and _ _ (Decides-eqb a.lamp_hours b.lamp_hours)
     (Decides-and _ _ (Decides-eqb a.lamp_strikes b.lamp_strikes) (Decides-and _ _ (Decides-eqb a.device_power_cycles b.device_power_cycles)
-    (Decides-and _ _ (presents_decide a.presents b.presents) (courses_decide course a.courses b.courses))))))
+    (Decides-and _ _ (presents_decide a.presents b.presents) (Decides-and _ _ (courses_decide course a.courses b.courses) (notices_decide notice a.notices b.notices)))))))
 
 pub fixture_decides : IsByValue uids.ghosts.eq → IsByValue profiles.ghosts.eq → IsByValue rules.ghosts.eq → IsByValue starts.ghosts.eq → IsByValue fixtures.ghosts.eq
 fixture_decides uid profile rule start a b =

@@ -21,3 +21,4 @@ pub mod WrittenUnits
 pub mod WrittenRules
 pub mod WrittenParameters
 pub mod WrittenFixtures
+pub mod WrittenNotices

@@ -6,6 +6,8 @@ use Rattle.rdm_frame.specs.declared.uid.Uid.{Uid}
 use Rattle.rdm_courses.specs.declared.course.Course.{Course}
 use Rattle.rdm_courses.specs.declared.course.Point.{Point}
 use Rattle.rdm_courses.specs.declared.course.Way.{Way}
+use Rattle.rdm_courses.specs.declared.notice.Notice.{Notice}
+use Rattle.rdm_frame.specs.declared.status.Severity.{Severity}
 use Rattle.rdm_profile.specs.declared.profile.choices.ChoiceName.{ChoiceName}
 use Rattle.rdm_profile.specs.declared.profile.estimates.Estimates.{Estimates}
 use Rattle.rdm_profile.specs.declared.profile.fields.Field.{Field}
@@ -37,6 +39,7 @@ use Rattle.rdm_fixture_keys.specs.Keys.{may, must}
 use Rattle.rdm_fixture.specs.Lists.{OfTable, EachIs, ListAt, Lists}
 use Rattle.rdm_fixture_keys.specs.Values.{flag, label_id, number, language}
 use Rattle.rdm_fixture.specs.Parameters.{IsField, SaysParameter, IsParameter, greatest_said, low_in, high_in, start, is_setting}
+use Rattle.rdm_fixture.specs.Notices.{IsNotice}
 use Rattle.rdm_fixture.specs.OverTime.{IsPoint, SaysCourse, IsCourse}
 use Rattle.rdm_fixture.specs.Starting.{SaysPresent, IsStarting}
 use Rattle.rdm_fixture.specs.Outcomes.{IsOutcome}
@@ -374,13 +377,13 @@ one_rule t x y p q = same_rule (one p.task q.task) (one p.value q.value) (one p.
 
 -- ---- the whole
 
-abbrev pub starting_of : ℕ → ℕ → ℕ → ℕ → ArrayVec (Option ℤ) 8 (Unit {0}) → ArrayVec Course 8 (Unit {0}) → Starting
-starting_of a0 a1 a2 a3 a4 a5 = record { device_hours = a0; lamp_hours = a1; lamp_strikes = a2; device_power_cycles = a3; presents = a4; courses = a5 }
+abbrev pub starting_of : ℕ → ℕ → ℕ → ℕ → ArrayVec (Option ℤ) 8 (Unit {0}) → ArrayVec Course 8 (Unit {0}) → ArrayVec Notice 16 (Unit {0}) → Starting
+starting_of a0 a1 a2 a3 a4 a5 a6 = record { device_hours = a0; lamp_hours = a1; lamp_strikes = a2; device_power_cycles = a3; presents = a4; courses = a5; notices = a6 }
 
-pub same_starting : {a0 b0 a1 b1 a2 b2 a3 b3 : ℕ} {a4 b4 : ArrayVec (Option ℤ) 8 (Unit {0})} {a5 b5 : ArrayVec Course 8 (Unit {0})}
-    → a0 ≡ b0 → a1 ≡ b1 → a2 ≡ b2 → a3 ≡ b3 → a4 ≡ b4 → a5 ≡ b5
-    → starting_of a0 a1 a2 a3 a4 a5 ≡ starting_of b0 b1 b2 b3 b4 b5
-same_starting e0 e1 e2 e3 e4 e5 = rw (e0, e1, e2, e3, e4, e5) refl
+pub same_starting : {a0 b0 a1 b1 a2 b2 a3 b3 : ℕ} {a4 b4 : ArrayVec (Option ℤ) 8 (Unit {0})} {a5 b5 : ArrayVec Course 8 (Unit {0})} {a6 b6 : ArrayVec Notice 16 (Unit {0})}
+    → a0 ≡ b0 → a1 ≡ b1 → a2 ≡ b2 → a3 ≡ b3 → a4 ≡ b4 → a5 ≡ b5 → a6 ≡ b6
+    → starting_of a0 a1 a2 a3 a4 a5 a6 ≡ starting_of b0 b1 b2 b3 b4 b5 b6
+same_starting e0 e1 e2 e3 e4 e5 e6 = rw (e0, e1, e2, e3, e4, e5, e6) refl
 
 one_present : SaysOne SaysPresent
 one_present t x y p q = one p q
@@ -407,12 +410,24 @@ one_course_said t x y p q =
 one_course : SaysOne IsCourse
 one_course t x y p q = one_course_said t x y p.said q.said
 
+abbrev notice_of : ℕ → Option ℕ → ℕ → Severity → ℕ → ℕ → ℕ → Notice
+notice_of a0 a1 a2 a3 a4 a5 a6 = record { at = a0; every = a1; sub = a2; severity = a3; id = a4; v1 = a5; v2 = a6 }
+
+same_notice : {a0 b0 : ℕ} {a1 b1 : Option ℕ} {a2 b2 : ℕ} {a3 b3 : Severity} {a4 b4 a5 b5 a6 b6 : ℕ}
+    → a0 ≡ b0 → a1 ≡ b1 → a2 ≡ b2 → a3 ≡ b3 → a4 ≡ b4 → a5 ≡ b5 → a6 ≡ b6 → notice_of a0 a1 a2 a3 a4 a5 a6 ≡ notice_of b0 b1 b2 b3 b4 b5 b6
+same_notice e0 e1 e2 e3 e4 e5 e6 = rw (e0, e1, e2, e3, e4, e5, e6) refl
+
+one_notice : SaysOne IsNotice
+one_notice t x y p q =
+    same_notice (one p.at q.at) (one p.every q.every) (one p.sub q.sub) (one p.severity q.severity) (one p.id q.id) (one p.v1 q.v1) (one p.v2 q.v2)
+
 pub one_starting : SaysOne IsStarting
 one_starting t x y p q =
     same_starting (one p.counted.device_hours q.counted.device_hours) (one p.counted.lamp_hours q.counted.lamp_hours)
     (one p.counted.lamp_strikes q.counted.lamp_strikes) (one p.counted.device_power_cycles q.counted.device_power_cycles)
     (ap (listed 8) (one_list t _ SaysPresent 0 8 _ _ one_present p.presents q.presents))
     (ap (listed 8) (one_list t _ IsCourse 0 8 _ _ one_course p.courses q.courses))
+    (ap (listed 16) (one_list t _ IsNotice 0 16 _ _ one_notice p.notices q.notices))
 
 abbrev pub fixture_of : Uid → Profile → ArrayVec Rule 32 (Unit {0}) → Starting → Fixture
 fixture_of a0 a1 a2 a3 = record { uid = a0; profile = a1; outcomes = a2; start = a3 }

@@ -17,6 +17,7 @@ use Rattle.rdm_fixture_keys.specs.Keys.{may, must, has_only}
 use Rattle.rdm_fixture.specs.Lists.{EachIs, ListAt, OfTable}
 use Rattle.rdm_fixture.specs.Outcomes.{IsOutcome}
 use Rattle.rdm_fixture.specs.Parameters.{IsParameter}
+use Rattle.rdm_fixture.specs.Notices.{IsNotice}
 use Rattle.rdm_fixture.specs.OverTime.{IsCourse}
 use Rattle.rdm_fixture.specs.Starting.{IsCounted, SaysPresent}
 use Rattle.rdm_fixture_keys.specs.Values.{number, text, uid, own_uid, language}
@@ -54,17 +55,17 @@ deeper n m d less is = record { shallow = omega (arith, less, is.shallow); dates
 pub deeper_some : (n m : ℕ) (o : Option Data) → n ≤ m → ((d : Data) → o ≡ Some d → IsPlain n d) → (d : Data) → o ≡ Some d → IsPlain m d
 deeper_some n m o less is d e = deeper n m d less (is d e)
 
-module _ (f : Fixture) (base : Members) (uid_data languages : Data) (slots sensors tests statuses lacks owns names locks outcomes subs times chosen : Option Data) where
+module _ (f : Fixture) (base : Members) (uid_data languages : Data) (slots sensors tests statuses lacks owns names locks outcomes subs times chosen messages : Option Data) where
   abbrev pub fixture_fields : List Field
   fixture_fields =
-      (codes "workers", chosen) ∷ (codes "estimates", times) ∷ (codes "sub_devices", subs) ∷ (codes "outcome", outcomes) ∷ (codes "lock", locks) ∷ (codes "choice", names) ∷ (codes "parameter", owns) ∷ (codes "without", lacks)
+      (codes "status_message", messages) ∷ (codes "workers", chosen) ∷ (codes "estimates", times) ∷ (codes "sub_devices", subs) ∷ (codes "outcome", outcomes) ∷ (codes "lock", locks) ∷ (codes "choice", names) ∷ (codes "parameter", owns) ∷ (codes "without", lacks)
       ∷ (codes "status", statuses) ∷ (codes "self_test", tests) ∷ (codes "sensor", sensors) ∷ (codes "slot", slots)
       ∷ (codes "more_slots", Some (integer (pos f.profile.particulars.more_slots))) ∷ (codes "presets", Some (integer (pos f.profile.presets)))
       ∷ (codes "languages", Some languages) ∷ (codes "boot_software_version_label", text_field f.profile.boot_text)
       ∷ (codes "boot_software_version_id", Some (integer (pos f.profile.boot))) ∷ (codes "uid", Some uid_data) ∷ []
 
   -- each table has one field more than the one before
-  pub fixture_members : (t1 t2 t3 t4 t5 t6 t7 t8 t9 t10 t11 t12 t13 t14 t15 t16 t17 t18 : Members)
+  pub fixture_members : (t1 t2 t3 t4 t5 t6 t7 t8 t9 t10 t11 t12 t13 t14 t15 t16 t17 t18 t19 : Members)
       → t1 ≡ with_field (codes "uid") (Some uid_data) base
       → t2 ≡ with_field (codes "boot_software_version_id") (Some (integer (pos f.profile.boot))) t1
       → t3 ≡ with_field (codes "boot_software_version_label") (text_field f.profile.boot_text) t2
@@ -78,8 +79,9 @@ module _ (f : Fixture) (base : Members) (uid_data languages : Data) (slots senso
       → t14 ≡ with_field (codes "lock") locks t13
       → t15 ≡ with_field (codes "outcome") outcomes t14 → t16 ≡ with_field (codes "sub_devices") subs t15
       → t17 ≡ with_field (codes "estimates") times t16 → t18 ≡ with_field (codes "workers") chosen t17
-      → t18 ≡ members_on base fixture_fields
-  fixture_members t1 t2 t3 t4 t5 t6 t7 t8 t9 t10 t11 t12 t13 t14 t15 t16 t17 t18 e1 e2 e3 e4 e5 e6 e7 e8 e9 e10 e11 e12 e13 e14 e15 e16 e17 e18 =
+      → t19 ≡ with_field (codes "status_message") messages t18
+      → t19 ≡ members_on base fixture_fields
+  fixture_members t1 t2 t3 t4 t5 t6 t7 t8 t9 t10 t11 t12 t13 t14 t15 t16 t17 t18 t19 e1 e2 e3 e4 e5 e6 e7 e8 e9 e10 e11 e12 e13 e14 e15 e16 e17 e18 e19 =
       let at2 = e2 ∙ ap (with_field (codes "boot_software_version_id") (Some (integer (pos f.profile.boot)))) e1 in
       let at3 = e3 ∙ ap (with_field (codes "boot_software_version_label") (text_field f.profile.boot_text)) at2 in
       let at4 = e4 ∙ ap (with_field (codes "languages") (Some languages)) at3 in
@@ -96,7 +98,8 @@ module _ (f : Fixture) (base : Members) (uid_data languages : Data) (slots senso
       let at15 = e15 ∙ ap (with_field (codes "outcome") outcomes) at14 in
       let at16 = e16 ∙ ap (with_field (codes "sub_devices") subs) at15 in
       let at17 = e17 ∙ ap (with_field (codes "estimates") times) at16 in
-      e18 ∙ ap (with_field (codes "workers") chosen) at17
+      let at18 = e18 ∙ ap (with_field (codes "workers") chosen) at17 in
+      e19 ∙ ap (with_field (codes "status_message") messages) at18
 
   or_absent : (o x : Option Data) → x ≡ None → or_else o x ≡ o
   or_absent None x none = none
@@ -122,8 +125,9 @@ module _ (f : Fixture) (base : Members) (uid_data languages : Data) (slots senso
       → ListAt (OfTable IsOutcome) outcomes f.outcomes.items → length f.outcomes.items ≤ 32
       → ((n : ℕ) (t : Members) → IsUnit n t f.profile.root → SubDevices n t subs f.profile.subs f.profile.sub)
       → EstimatesAt times f.profile.particulars.estimates → WorkersAt chosen f.profile.workers
+      → ListAt (OfTable IsNotice) messages f.start.notices.items → length f.start.notices.items ≤ 16
       → IsFixture (members_on base fixture_fields) f
-  fixture_says can only counted root own boot boot_text langs slot slot_fit sensor sensor_fit present course test test_fit status status_fit lacked lacked_fit added added_fit named named_fit lock lock_fit outcome outcome_fit sub time worker =
+  fixture_says can only counted root own boot boot_text langs slot slot_fit sensor sensor_fit present course test test_fit status status_fit lacked lacked_fit added added_fit named named_fit lock lock_fit outcome outcome_fit sub time worker notice notice_fit =
       let fs = fixture_fields in
       let t = members_on base fs in
       let at_slot : get_member (codes "slot") t ≡ slots = found (codes "slot") slots refl (absent root_keys (codes "slot") base only refl) in
@@ -141,7 +145,7 @@ module _ (f : Fixture) (base : Members) (uid_data languages : Data) (slots senso
         keys = only_on fixture_keys base fs
             (wider (codes "uid" ∷ codes "boot_software_version_id" ∷ codes "boot_software_version_label" ∷ codes "languages" ∷ codes "presets"
             ∷ codes "more_slots" ∷ codes "slot" ∷ codes "sensor" ∷ codes "self_test" ∷ codes "status" ∷ codes "without" ∷ codes "parameter" ∷ codes "choice" ∷ codes "lock" ∷ codes "outcome"
-            ∷ codes "sub_devices" ∷ codes "estimates" ∷ codes "workers" ∷ []) root_keys base only) refl;
+            ∷ codes "sub_devices" ∷ codes "estimates" ∷ codes "workers" ∷ codes "status_message" ∷ []) root_keys base only) refl;
         said = record {
           own = ap (must uid) (get_on base (codes "uid") fs) ∙ own;
           profile = record {
@@ -197,6 +201,7 @@ module _ (f : Fixture) (base : Members) (uid_data languages : Data) (slots senso
               enough = omega arith;
               fit = let same = can.courses.each in omega (arith, same, sensor_fit);
             };
+            notices = record { items = rw (found (codes "status_message") messages refl (absent root_keys (codes "status_message") base only refl)) notice; enough = omega arith; fit = notice_fit };
           };
         };
         works = can.works;
@@ -207,12 +212,12 @@ module _ (f : Fixture) (base : Members) (uid_data languages : Data) (slots senso
       → ((d : Data) → statuses ≡ Some d → IsPlain 4 d) → ((d : Data) → lacks ≡ Some d → IsPlain 4 d) → ((d : Data) → owns ≡ Some d → IsPlain 4 d)
       → ((d : Data) → names ≡ Some d → IsPlain 4 d) → ((d : Data) → locks ≡ Some d → IsPlain 4 d)
       → ((d : Data) → outcomes ≡ Some d → IsPlain 4 d) → ((d : Data) → subs ≡ Some d → IsPlain 4 d) → ((d : Data) → times ≡ Some d → IsPlain 4 d)
-      → ((d : Data) → chosen ≡ Some d → IsPlain 4 d)
+      → ((d : Data) → chosen ≡ Some d → IsPlain 4 d) → ((d : Data) → messages ≡ Some d → IsPlain 4 d)
       → IsPlain 5 (table (members_on base fixture_fields))
-  fixture_plain rest is_uid is_languages is_slots is_sensors is_tests is_statuses is_lacks is_own is_named is_locks is_outcomes is_subs is_times is_chosen =
+  fixture_plain rest is_uid is_languages is_slots is_sensors is_tests is_statuses is_lacks is_own is_named is_locks is_outcomes is_subs is_times is_chosen is_messages =
       plain_on 4 base fixture_fields rest
-      (option_plain 4 (codes "workers") chosen _ is_chosen (option_plain 4 (codes "estimates") times _ is_times (option_plain 4 (codes "sub_devices") subs _ is_subs (option_plain 4 (codes "outcome") outcomes _ is_outcomes
+      (option_plain 4 (codes "status_message") messages _ is_messages (option_plain 4 (codes "workers") chosen _ is_chosen (option_plain 4 (codes "estimates") times _ is_times (option_plain 4 (codes "sub_devices") subs _ is_subs (option_plain 4 (codes "outcome") outcomes _ is_outcomes
       (option_plain 4 (codes "lock") locks _ is_locks (option_plain 4 (codes "choice") names _ is_named (option_plain 4 (codes "parameter") owns _ is_own (option_plain 4 (codes "without") lacks _ is_lacks
       (option_plain 4 (codes "status") statuses _ is_statuses (option_plain 4 (codes "self_test") tests _ is_tests
       (option_plain 4 (codes "sensor") sensors _ is_sensors (option_plain 4 (codes "slot") slots _ is_slots
-      (number_plain 4 _, (number_plain 4 _, (is_languages, text_plain 4 (codes "boot_software_version_label") f.profile.boot_text _ (number_plain 4 _, (is_uid, tt)))))))))))))))))
+      (number_plain 4 _, (number_plain 4 _, (is_languages, text_plain 4 (codes "boot_software_version_label") f.profile.boot_text _ (number_plain 4 _, (is_uid, tt))))))))))))))))))

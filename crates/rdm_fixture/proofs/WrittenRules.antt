@@ -26,7 +26,7 @@ task_again PowerState = refl
 task_again PerformSelfTest = refl
 task_again SensorValue = refl
 
-severity_again : (x : Severity) → IsTrue (is_base_form x) → severity (string (severity_name x)) ≡ Some x
+pub severity_again : (x : Severity) → IsTrue (is_base_form x) → severity (string (severity_name x)) ≡ Some x
 severity_again Advisory h = refl
 severity_again Warning h = refl
 severity_again Error h = refl
@@ -123,7 +123,7 @@ rule_says r value turn ruled words says_value says_turn =
     }
 
 -- how deep they are
-name_plain : (s : List ℕ) → IsPlain 0 (string s)
+pub name_plain : (s : List ℕ) → IsPlain 0 (string s)
 name_plain s = record { shallow = omega arith; dates = refl }
 
 outcome_plain : (x : Task) (value turn : Option Data) (o : Outcome) → ArePlain 0 (job_fields x value turn) → ArePlain 0 (rule_fields x value turn o)

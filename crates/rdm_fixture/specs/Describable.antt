@@ -15,6 +15,8 @@ use Rattle.rdm_commands.specs.declared.jobs.outcome.Outcome.TheVariants.{Failed}
 use Rattle.rdm_outcomes.specs.declared.rule.Rule.{Rule}
 use Rattle.rdm_outcomes.specs.Outcomes.{suits}
 use Rattle.rdm_fixture.specs.declared.fixture.Fixture.{Fixture}
+use Rattle.rdm_courses.specs.declared.notice.Notice.{Notice}
+use Rattle.rdm_fixture.specs.Notices.{comes_again}
 use Rattle.rdm_fixture.specs.OverTime.{AreCourses}
 use Rattle.rdm_fixture.specs.Parameters.{least_of, greatest_of, can_reset}
 use Rattle.rdm_fixture_keys.specs.Values.{is_printable, is_letter}
@@ -86,6 +88,10 @@ is_told _ = true
 abbrev pub is_ruled : Rule → Bool
 is_ruled r = is_counted r.turn && (suits r.task r.outcome && is_told r.outcome)
 
+-- a status message can stand in a file
+abbrev pub is_noticed : Notice → Bool
+is_noticed n = comes_again n.every && (nat_le n.sub 512 && is_base_form n.severity)
+
 -- ---- the whole
 
 pub record CanBeDescribed (f : Fixture) : Type 0 where
@@ -98,4 +104,5 @@ pub record CanBeDescribed (f : Fixture) : Type 0 where
   pub outcomes : All (λ r. IsTrue (is_ruled r)) f.outcomes.items
   pub presents : length f.start.presents.items ≡ length f.profile.sensors.items
   pub courses : AreCourses f.start.courses.items f.profile.sensors.items
+  pub notices : All (λ n. IsTrue (is_noticed n)) f.start.notices.items
   pub works : CanWork f

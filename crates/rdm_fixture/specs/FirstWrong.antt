@@ -31,6 +31,7 @@ use Rattle.rdm_fixture_keys.specs.Keys.{must, has_only}
 use Rattle.rdm_fixture.specs.Lists.{OfTable, EachIs, Lists, items_count, entries}
 use Rattle.rdm_fixture.specs.Outcomes.{IsOutcome, task, severity, outcome_in, and_job_keys, rule_keys}
 use Rattle.rdm_fixture_keys.specs.Values.{integer_from, flag, within, number, worker, language, uid}
+use Rattle.rdm_fixture.specs.Notices.{IsNotice, notice_parts}
 use Rattle.rdm_fixture.specs.OverTime.{IsCourse, course_parts}
 use Rattle.rdm_fixture.specs.Parameters.{IsField, SaysParameter, IsParameter, parameter_keys, own_pid, command_class, data_type, slots_of, shape_in, least_of, greatest_of, limit, low_in, high_in, start, can_reset}
 use Rattle.rdm_fixture.specs.Starting.{measured, SaysPresent, IsStarting}
@@ -348,7 +349,8 @@ abbrev pub starting_parts : List Part
 starting_parts =
     free_number (codes "device_hours") 0 0xFFFFFFFF ∷ free_number (codes "lamp_hours") 0 0xFFFFFFFF
     ∷ free_number (codes "lamp_strikes") 0 0xFFFFFFFF ∷ free_number (codes "device_power_cycles") 0 0xFFFFFFFF
-    ∷ entries (codes "sensor") SaysPresent (FirstWrong present_parts) 0 8 ∷ entries (codes "sensor") IsCourse (FirstWrong course_parts) 0 8 ∷ []
+    ∷ entries (codes "sensor") SaysPresent (FirstWrong present_parts) 0 8 ∷ entries (codes "sensor") IsCourse (FirstWrong course_parts) 0 8
+    ∷ entries (codes "status_message") IsNotice (FirstWrong notice_parts) 0 16 ∷ []
 
 -- nothing is said in vain
 abbrev pub working : Part

@@ -160,7 +160,7 @@ fixture_keys =
     codes "uid" ∷ codes "boot_software_version_id" ∷ codes "boot_software_version_label" ∷ codes "languages"
     ∷ codes "presets" ∷ codes "more_slots" ∷ codes "slot" ∷ codes "sensor" ∷ codes "self_test" ∷ codes "status"
     ∷ codes "without" ∷ codes "parameter" ∷ codes "choice" ∷ codes "lock" ∷ codes "outcome" ∷ codes "sub_devices"
-    ∷ codes "estimates" ∷ codes "workers" ∷ root_keys
+    ∷ codes "estimates" ∷ codes "workers" ∷ codes "status_message" ∷ root_keys
 
 -- What the devices are made with. The parameters that it adds are in the order of their PIDs, and each thing of which one is chosen has a
 -- name. LOCK_STATE has each state that locks something. Those that the fixture lacks are ones that it may lack, and none that another one

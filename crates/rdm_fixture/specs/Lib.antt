@@ -11,3 +11,4 @@ pub mod Cause
 pub mod FirstWrong
 pub mod Writing
 pub mod OverTime
+pub mod Notices

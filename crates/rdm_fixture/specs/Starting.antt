@@ -6,6 +6,7 @@ use Rattle.toml.specs.Data.{Data, Members}
 use Rattle.rdm_fixture.specs.declared.starting.Starting.{Starting}
 use Rattle.rdm_fixture_keys.specs.Keys.{May}
 use Rattle.rdm_fixture.specs.Lists.{Lists, OfTable}
+use Rattle.rdm_fixture.specs.Notices.{IsNotice}
 use Rattle.rdm_fixture.specs.OverTime.{IsCourse, no_courses}
 use Rattle.rdm_fixture_keys.specs.Values.{number, signed}
 
@@ -39,6 +40,7 @@ nothing_measured sensors = record {
   device_power_cycles = 0;
   presents = record { items = map (λ s. None) sensors };
   courses = record { items = no_courses sensors };
+  notices = record { items = [] };
 }
 
 -- the lowest and the highest value of a sensor that keeps them (bit 1 of its support) are what it has measured
@@ -56,3 +58,4 @@ pub record IsStarting (t : Members) (s : Starting) : Type 0 where
   pub counted : IsCounted t s
   pub presents : Lists t (codes "sensor") (OfTable SaysPresent) 0 8 s.presents.items
   pub courses : Lists t (codes "sensor") (OfTable IsCourse) 0 8 s.courses.items
+  pub notices : Lists t (codes "status_message") (OfTable IsNotice) 0 16 s.notices.items

@@ -1,6 +1,6 @@
 -- What a file says in vain: how jobs end that never begin, a status ID that nothing describes, and values of parameters that the
 -- fixture lacks.
-use Rattle.std.specs.Prelude.{◌≡◌, ℕ, ◌+◌, ◌<◌, ◌==◌, Bool, true, false, ◌&&◌, ◌||◌, not, if◌then◌else◌, nat_le, ◌⊎◌, IsTrue, List, length, slice_get, slice_index_or, Option, ℤ, Some, None, is_some, codes}
+use Rattle.std.specs.Prelude.{◌≡◌, ℕ, ◌+◌, ◌<◌, ◌==◌, Bool, true, false, ◌&&◌, ◌||◌, not, if◌then◌else◌, nat_le, ◌⊎◌, IsTrue, pos, List, length, slice_get, slice_index_or, Option, ℤ, Some, None, is_some, codes}
 use Rattle.std.specs.List.{list_any, list_all}
 use Rattle.std.specs.Option.{option_map_or}
 use Rattle.rdm_profile.specs.declared.profile.Profile.{Profile}
@@ -17,6 +17,7 @@ use Rattle.rdm_outcomes.specs.declared.rule.Task.TheVariants.{LampState, PowerSt
 use Rattle.rdm_outcomes.specs.Outcomes.{task_pid}
 use Rattle.rdm_fixture.specs.declared.fixture.Fixture.{Fixture}
 use Rattle.rdm_fixture.specs.OverTime.{can_run}
+use Rattle.rdm_courses.specs.declared.notice.Notice.{Notice}
 use Rattle.rdm_fixture_keys.specs.declared.refusal.Agreement.{Agreement}
 use Rattle.rdm_fixture_keys.specs.declared.refusal.Agreement.TheVariants as agreements
 use Rattle.rdm_fixture_keys.specs.declared.refusal.Wanted.TheVariants as wanted
@@ -94,6 +95,32 @@ can_measure pids presents = not (leaves_out pids 0x0201) || list_all (λ o. not 
 abbrev pub can_start_so : List ℕ → Starting → Bool
 can_start_so pids s = can_count_all pids s && (can_measure pids s.presents.items && can_run pids s.courses.items)
 
+-- ---- status messages
+
+-- a message has a status ID of the standard's, or one that the profile describes, and is one of a device that there is. Section 10.3.2.
+abbrev pub stands : ℕ → List StatusText → Notice → Bool
+stands subs texts n = is_known texts n.id && nat_le n.sub subs
+
+abbrev pub AllStand : ℕ → List StatusText → List Notice → Type 0
+AllStand subs texts ns = (i : ℕ) (d : Notice) → i < length ns → stands subs texts (slice_index_or ns i d) ≡ true
+
+-- the message at n (from 0) is the first that doesn't
+pub record IsFirstFallen (subs : ℕ) (texts : List StatusText) (ns : List Notice) (n : ℕ) : Type 0 where
+  pub there : n < length ns
+  pub before : (i : ℕ) (d : Notice) → i < n → stands subs texts (slice_index_or ns i d) ≡ true
+  pub here : (d : Notice) → stands subs texts (slice_index_or ns n d) ≡ false
+
+-- what is wrong in it then
+abbrev pub fallen_fault : ℕ → List StatusText → Notice → Fault
+fallen_fault subs texts n =
+    if is_known texts n.id then fault (codes "sub_device") (wanted.Number (pos 0) (pos subs))
+    else fault (codes "status_id") (wanted.Agreement agreements.Unexplained)
+
+pub record FallenNotice (subs : ℕ) (texts : List StatusText) (ns : List Notice) (f : Fault) : Type 0 where
+  pub n : ℕ
+  pub first : IsFirstFallen subs texts ns n
+  pub told : (d : Notice) → f ≡ in_entry (codes "status_message") (n + 1) (fallen_fault subs texts (slice_index_or ns n d))
+
 -- ---- the whole
 
 -- each rule says something
@@ -111,16 +138,20 @@ pub record CanWork (f : Fixture) : Type 0 where
   pub rules : AreUsed f.profile f.outcomes.items
   pub sensors : IsTrue (tells_sensors f.profile.particulars.without.items f.profile.sensors.items)
   pub start : IsTrue (can_start_so f.profile.particulars.without.items f.start)
+  pub notices : AllStand f.profile.subs f.profile.status_texts.items f.start.notices.items
 
 abbrev pub without_fault : Agreement → Fault
 without_fault why = fault (codes "without") (wanted.Agreement why)
 
--- the first outcome that is, sensors that are, or values to start with
+-- the first outcome that is, sensors that are, values to start with, or the first status message
 abbrev pub IsIdleElse : Fixture → Fault → Type 0
 IsIdleElse f e =
     IdleRule f.profile f.outcomes.items e
     ⊎ (AreUsed f.profile f.outcomes.items × (((tells_sensors f.profile.particulars.without.items f.profile.sensors.items ≡ false) × (e ≡ without_fault agreements.Sensors))
-    ⊎ (IsTrue (tells_sensors f.profile.particulars.without.items f.profile.sensors.items) × (can_start_so f.profile.particulars.without.items f.start ≡ false) × (e ≡ without_fault agreements.Started))))
+    ⊎ (IsTrue (tells_sensors f.profile.particulars.without.items f.profile.sensors.items)
+    × (((can_start_so f.profile.particulars.without.items f.start ≡ false) × (e ≡ without_fault agreements.Started))
+    ⊎ (IsTrue (can_start_so f.profile.particulars.without.items f.start)
+    × FallenNotice f.profile.subs f.profile.status_texts.items f.start.notices.items e)))))
 
 -- the first thing that is, and what is told of it
 abbrev pub IsIdle : Fixture → Fault → Type 0

@@ -157,6 +157,7 @@ fn fixture_of(table: &Table) -> Result<(Fixture, Apart), Refusal>
             "sub_devices",
             "estimates",
             "workers",
+            "status_message",
             "device_hours",
             "lamp_hours",
             "lamp_strikes",

@@ -4,7 +4,7 @@ ghost use Rattle.std.specs.Prelude.{◌≡◌, ◌↔◌, ℕ, List, IsTrue};
 ghost use Rattle.rdm_fixture.specs.Describes.{Describes};
 
 use crate::{Fixture, Starting, WriteError};
-use rdm_courses::courses_are_equal_by_value;
+use rdm_courses::{courses_are_equal_by_value, notices_are_equal_by_value};
 use rdm_device::profiles_are_equal_by_value;
 use rdm_frame::uids_are_equal_by_value;
 use rdm_outcomes::rules_are_equal_by_value;
@@ -19,6 +19,7 @@ pub fn starts_are_equal_by_value()
     ensures { (a b : Starting) → IsTrue (⟦<Starting as PartialEq>⟧.eq a b) ↔ (a ≡ b) }
 {
     courses_are_equal_by_value();
+    notices_are_equal_by_value();
 }
 
 /// Two fixtures are equal by `==` exactly when their UIDs, their profiles, their outcomes and what they start with are.

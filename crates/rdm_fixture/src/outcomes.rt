@@ -19,6 +19,7 @@ use rdm_fixture_keys::keys::{find, integer_in, integer16_in, only};
 use rdm_outcomes::{Rule, Task};
 use rdm_params::{Outcome, Severity};
 use toml::{Table, Value};
+pub(crate) use wrong::out_of_range;
 use wrong::what_is_wrong;
 
 /// The keys of each rule, and these.
@@ -154,7 +155,7 @@ fn failed(table: &Table) -> Option<Outcome>
     })
 }
 
-fn severity(table: &Table) -> Option<Severity>
+pub(crate) fn severity(table: &Table) -> Option<Severity>
     ensures { result ≡ must says.severity (get_member (codes "severity") (table_view table.now)) }
 {
     severity_in(find(table, "severity")?)
@@ -174,14 +175,14 @@ fn severity_in(value: &Value) -> Option<Severity>
     }
 }
 
-fn status_id(table: &Table) -> Option<u16>
+pub(crate) fn status_id(table: &Table) -> Option<u16>
     ensures { result ≡ must (number 0 0xFFFF) (get_member (codes "status_id") (table_view table.now)) }
 {
     Some(integer_in(find(table, "status_id")?, 0, 0xFFFF)? as u16)
 }
 
 /// One of the two values that a status text names, which is 0 if it is left out.
-fn data_value(table: &Table, key: &str) -> Option<u16>
+pub(crate) fn data_value(table: &Table, key: &str) -> Option<u16>
     ensures { result ≡ may 0 (number 0 0xFFFF) (get_member key.now (table_view table.now)) }
 {
     match find(table, key) {

@@ -12,7 +12,7 @@ ghost use Rattle.toml.specs.View.{table_view};
 use crate::courses::no_courses;
 use crate::lists::{FromEntry, list};
 use arrayvec::ArrayVec;
-use rdm_courses::Course;
+use rdm_courses::{Course, Notice};
 use rdm_device::SensorDef;
 use rdm_fixture_keys::Refusal;
 use rdm_fixture_keys::keys::{find, number_or, signed_in};
@@ -33,6 +33,8 @@ pub struct Starting {
     pub presents: ArrayVec<Option<i16>, 8>,
     /// What each sensor shows over time, in their order: no points, where nothing is said of it.
     pub courses: ArrayVec<Course, 8>,
+    /// The status messages that come by themselves (section 10.3.2).
+    pub notices: ArrayVec<Notice, 16>,
 }
 
 impl Starting {
@@ -51,6 +53,7 @@ impl Starting {
             device_power_cycles: 0,
             presents,
             courses: no_courses(sensors),
+            notices: ArrayVec::new(),
         }
     }
 }
@@ -103,5 +106,6 @@ pub(crate) fn values_at_start(table: &Table) -> Result<Starting, Refusal>
         device_power_cycles: number_or(table, "device_power_cycles", 0, 0, 0xFFFF_FFFF)?,
         presents: list(table, "sensor", 0, 0)?,
         courses: list(table, "sensor", 0, 0)?,
+        notices: list(table, "status_message", 0, 0)?,
     })
 }

@@ -14,7 +14,7 @@ use crate::courses::say_nothing;
 use crate::fixture::Fixture;
 use crate::profile::Apart;
 use crate::starting::Starting;
-use rdm_courses::Course;
+use rdm_courses::{Course, Notice};
 use rdm_device::{Profile, SelfTest, SensorDef, StatusText, can_hold, can_open};
 use rdm_fixture_keys::{Agreement, Refusal, Wanted};
 use rdm_outcomes::{Rule, Task};
@@ -45,7 +45,7 @@ pub(crate) fn said_in_vain(fixture: &Fixture, apart: &Apart) -> Option<Refusal>
     if !can_start_so(without, &fixture.start) {
         return Some(Refusal::at("without", Wanted::Agreement(Agreement::Started)));
     }
-    None
+    fallen_notice(profile, fixture.start.notices.as_slice())
 }
 
 /// Whether a fixture says nothing in vain.
@@ -60,6 +60,7 @@ pub(crate) fn can_work(fixture: &Fixture) -> bool
         && first_idle(without, profile, fixture.outcomes.as_slice()).is_none()
         && tells_sensors(without, profile.sensors.as_slice())
         && can_start_so(without, &fixture.start)
+        && first_fallen(profile, fixture.start.notices.as_slice()).is_none()
 }
 
 // ---- how jobs end
@@ -172,6 +173,49 @@ fn is_described(texts: &[StatusText], id: u16) -> bool
     ensures { result ≡ list_any (λ s. s.id == id) texts.now }
 {
     texts.iter().any(|text| text.id == id)
+}
+
+// ---- status messages
+
+/// What is wrong in the first status message that names a status ID which nothing describes, or a device that isn't there.
+fn fallen_notice(profile: &Profile, notices: &[Notice]) -> Option<Refusal>
+    ensures none { (result ≡ None) ↔ spec.AllStand profile.now.subs profile.now.status_texts.items notices.now }
+    ensures wrong { IfSome result (λ e. spec.FallenNotice profile.now.subs profile.now.status_texts.items notices.now (told e)) }
+{
+    let number = first_fallen(profile, notices)?;
+    let refusal = fallen(profile, &notices[number]);
+    Some(refusal.in_entry("status_message", number + 1))
+}
+
+/// What is wrong in a message that doesn't stand.
+fn fallen(profile: &Profile, notice: &Notice) -> Refusal
+    ensures { told result ≡ spec.fallen_fault profile.now.subs profile.now.status_texts.items notice.now }
+{
+    if is_known(profile.status_texts.as_slice(), notice.id) {
+        let most = i64::from(profile.subs);
+        return Refusal::at("sub_device", Wanted::Number { least: 0, most });
+    }
+    Refusal::at("status_id", Wanted::Agreement(Agreement::Unexplained))
+}
+
+/// The first message that doesn't stand, from 0.
+fn first_fallen(profile: &Profile, notices: &[Notice]) -> Option<usize>
+    ensures none { (result ≡ None) ↔ spec.AllStand profile.now.subs profile.now.status_texts.items notices.now }
+    ensures first { IfSome result (λ n. spec.IsFirstFallen profile.now.subs profile.now.status_texts.items notices.now n) }
+{
+    for n in 0..notices.len() {
+        if !stands(profile, &notices[n]) {
+            return Some(n);
+        }
+    }
+    None
+}
+
+/// Whether a message has a known status ID, and is one of a device that there is.
+fn stands(profile: &Profile, notice: &Notice) -> bool
+    ensures { result ≡ spec.stands profile.now.subs profile.now.status_texts.items notice.now }
+{
+    is_known(profile.status_texts.as_slice(), notice.id) && notice.sub <= profile.subs
 }
 
 // ---- values of what the fixture lacks

@@ -11,6 +11,7 @@ ghost use Rattle.rdm_fixture.specs.Writing.{IsPlain};
 mod checks;
 mod entries;
 mod fields;
+mod notices;
 mod parameters;
 mod rules;
 mod sensors;

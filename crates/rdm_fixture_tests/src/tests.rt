@@ -17,7 +17,7 @@ mod starting;
 mod values;
 mod workers;
 
-use rdm_courses::{Course, Point};
+use rdm_courses::{Course, Notice, Point};
 use rdm_device::{ChoiceName, Estimates, Field, Lock, ParameterDef, SensorDef, Workers};
 use rdm_fixture::{Fixture, Starting, shown_at_start};
 use std::alloc::{AllocError, Global};
@@ -54,6 +54,8 @@ enum Part {
     Sensors,
     /// What each sensor shows over time.
     Courses,
+    /// The status messages that come by themselves.
+    Notices,
 }
 
 /// Rows of one kind.
@@ -147,6 +149,7 @@ fn part_of(alloc: Global, part: Part, fixture: &Fixture) -> Result<String, Alloc
         Part::Start => start_text(alloc, fixture),
         Part::Sensors => sensors_text(alloc, profile.sensors.as_slice()),
         Part::Courses => courses_text(alloc, fixture.start.courses.as_slice()),
+        Part::Notices => notices_text(alloc, fixture.start.notices.as_slice()),
     }
 }
 
@@ -185,6 +188,24 @@ fn courses_text(alloc: Global, courses: &[Course]) -> Result<String, AllocError>
         let way = course.way;
         let repeats = course.repeats;
         let line = format!(in alloc; "[{points}] {way:?} {repeats}")?;
+        put_line(&mut lines, &line)?;
+    }
+    Ok(lines)
+}
+
+fn notices_text(alloc: Global, notices: &[Notice]) -> Result<String, AllocError> {
+    let mut lines = String::new(alloc);
+    for notice in notices {
+        let Notice {
+            at,
+            every,
+            sub,
+            severity,
+            id,
+            v1,
+            v2,
+        } = *notice;
+        let line = format!(in alloc; "{at} {every:?} {sub} {severity:?} {id} {v1} {v2}")?;
         put_line(&mut lines, &line)?;
     }
     Ok(lines)

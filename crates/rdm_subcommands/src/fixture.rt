@@ -1,7 +1,7 @@
 //! `felosumay fixture`: what a fixture's file describes, and the names that it can have.
 
 use clap::ArgMatches;
-use rdm_courses::{Course, Point, Way};
+use rdm_courses::{Course, Notice, Point, Way};
 use rdm_fixture::Fixture;
 use rdm_host::fault::Fault;
 use rdm_host::fixture::FixtureFile;
@@ -53,6 +53,9 @@ fn print_fixture<'a, H: Host>(rt: H, fixture: &Fixture) -> Result<(), Fault<'a>>
     for (number, course) in fixture.start.courses.iter().enumerate() {
         put_course(&mut text, number, course)?;
     }
+    for notice in fixture.start.notices.iter() {
+        put_notice(&mut text, notice)?;
+    }
     print(rt, text.as_bytes())
 }
 
@@ -76,4 +79,25 @@ fn put_course(text: &mut String, number: usize, course: &Course) -> Result<(), A
     } else {
         "\n"
     })
+}
+
+/// A status message, and when it comes.
+fn put_notice(text: &mut String, notice: &Notice) -> Result<(), AllocError> {
+    let Notice {
+        at,
+        sub,
+        id,
+        v1,
+        v2,
+        ..
+    } = notice;
+    let severity = notice.severity.name();
+    write!(text, "status message at {at} s")?;
+    if let Some(every) = notice.every {
+        write!(text, " and every {every} s")?;
+    }
+    writeln!(
+        text,
+        ": {severity}, sub-device {sub}, status ID {id:04X}, values {v1} and {v2}"
+    )
 }

@@ -2,7 +2,7 @@
 
 use arrayvec::ArrayVec;
 use clap::ArgMatches;
-use rdm_courses::{Course, MOST_POINTS, Point};
+use rdm_courses::{Course, MOST_POINTS, Notice, Point};
 use rdm_device::Profile;
 use rdm_fixture::{Fixture, Starting, shown_at_start};
 use rdm_frame::Uid;
@@ -206,7 +206,17 @@ pub(crate) fn live<'a, H: Host>(
         place(&mut live, Kind::SensorValue, sensor);
     }
     live.follow(followed(rt.alloc(), &start)?);
+    live.tell(told(rt.alloc(), &start)?);
     Ok(live)
+}
+
+/// The status messages that come by themselves.
+fn told(alloc: Global, start: &Starting) -> Result<Vec<Notice>, AllocError> {
+    let mut told = Vec::new(alloc);
+    for notice in start.notices.iter() {
+        told.push(*notice)?;
+    }
+    Ok(told)
 }
 
 /// The sensors that show something over time.

@@ -1,17 +1,19 @@
 -- What measuring changes of a history: neither its setup, nor which jobs were reported.
-use Rattle.std.proofs.Common.{◌≡◌, ℕ, ℤ, List, [], ◌∷◌, Option, Some, None, refl, ◌∙◌}
+use Rattle.std.proofs.Common.{◌≡◌, ℕ, ℤ, Bool, true, false, if◌then◌else◌, List, [], ◌∷◌, Option, Some, None, refl, ◌∙◌}
 use Rattle.rdm_commands.specs.declared.placing.PlaceError.{PlaceError}
 use Rattle.rdm_commands.specs.declared.verdict.Verdict.{Verdict}
 use Rattle.rdm_commands.specs.declared.verdict.Verdict.TheVariants as verdict
 use Rattle.rdm_commands.specs.Commands.Commands.{got}
 use Rattle.rdm_commands.specs.Commands.Placing.{place_refusal}
+use Rattle.rdm_courses.specs.declared.notice.Notice.{Notice}
 use Rattle.rdm_courses.specs.Courses.{shown_since}
-use Rattle.rdm_responder.specs.History.{History}
+use Rattle.rdm_courses.specs.Notices.{notice_comes, entry_of}
+use Rattle.rdm_responder.specs.History.{History, Noted, then_event}
 use Rattle.rdm_responder.specs.Laws.{values_of}
 use Rattle.rdm_widget.specs.declared.live_fixture.measuring.SensorCourse.{SensorCourse}
 use Rattle.rdm_widget.specs.LiveFixtures.{reported_in}
-use Rattle.rdm_widget.specs.Measuring.{with_present, after_slots, after_answer, after_value, after_values, after_courses}
-use Rattle.rdm_widget.proofs.Reports.{reported-placed}
+use Rattle.rdm_widget.specs.Measuring.{with_present, after_slots, after_answer, after_value, after_values, after_courses, after_notices}
+use Rattle.rdm_widget.proofs.Reports.{reported-noted, reported-placed}
 
 record Stays (g h : History) : Type 0 where
   setup : g.setup ≡ h.setup
@@ -44,8 +46,26 @@ courses_stay looked now (c ∷ cs) h =
     let next = after_values c.sensor (shown_since c.course looked now) h in
     stays_then (after_courses looked now cs next) next h (courses_stay looked now cs next) (values_stay c.sensor (shown_since c.course looked now) h)
 
-pub courses_setup : (looked : Option ℕ) (now : ℕ) (cs : List SensorCourse) (h : History) → (after_courses looked now cs h).setup ≡ h.setup
-courses_setup looked now cs h = (courses_stay looked now cs h).setup
+noted_stays : (b : Bool) (n : Notice) (h : History) → Stays (if b then then_event h (Noted (entry_of n)) else h) h
+noted_stays true n h = record { setup = refl; reported = reported-noted h.events (entry_of n) }
+noted_stays false n h = record { setup = refl; reported = refl }
 
-pub courses_reported : (looked : Option ℕ) (now : ℕ) (cs : List SensorCourse) (h : History) → reported_in (after_courses looked now cs h).events ≡ reported_in h.events
-courses_reported looked now cs h = (courses_stay looked now cs h).reported
+notices_stay : (looked : Option ℕ) (now : ℕ) (ns : List Notice) (h : History) → Stays (after_notices looked now ns h) h
+notices_stay looked now [] h = record { setup = refl; reported = refl }
+notices_stay looked now (n ∷ ns) h =
+    let next = if notice_comes n looked now then then_event h (Noted (entry_of n)) else h in
+    stays_then (after_notices looked now ns next) next h (notices_stay looked now ns next) (noted_stays (notice_comes n looked now) n h)
+
+come_stay : (looked : Option ℕ) (now : ℕ) (ns : List Notice) (cs : List SensorCourse) (h : History)
+    → Stays (after_notices looked now ns (after_courses looked now cs h)) h
+come_stay looked now ns cs h =
+    let next = after_courses looked now cs h in
+    stays_then (after_notices looked now ns next) next h (notices_stay looked now ns next) (courses_stay looked now cs h)
+
+pub come_setup : (looked : Option ℕ) (now : ℕ) (ns : List Notice) (cs : List SensorCourse) (h : History)
+    → (after_notices looked now ns (after_courses looked now cs h)).setup ≡ h.setup
+come_setup looked now ns cs h = (come_stay looked now ns cs h).setup
+
+pub come_reported : (looked : Option ℕ) (now : ℕ) (ns : List Notice) (cs : List SensorCourse) (h : History)
+    → reported_in (after_notices looked now ns (after_courses looked now cs h)).events ≡ reported_in h.events
+come_reported looked now ns cs h = (come_stay looked now ns cs h).reported

@@ -4,6 +4,7 @@ use Rattle.std.specs.Prelude.{filter, fold, slice_get, nat_lt, nat_le, OnOk, IfE
 use Rattle.std.specs.Option.{option_to_list}
 use Rattle.std.specs.Result.{result_ok}
 use Rattle.std.proofs.lemmas.Bool.{eqb-true}
+use Rattle.rdm_frame.specs.declared.status.Entry.{Entry}
 use Rattle.rdm_frame.specs.Reading.{frame_in}
 use Rattle.rdm_commands.specs.declared.panel.Change.{Change}
 use Rattle.rdm_commands.specs.declared.jobs.work.Work.{Work}
@@ -225,6 +226,16 @@ reported-placed (Placed other key more ∷ es) sub pid bytes = reported-placed e
 reported-placed (Noted entry ∷ es) sub pid bytes = reported-placed es sub pid bytes
 reported-placed (Restored image ∷ es) sub pid bytes = reported-placed es sub pid bytes
 reported-placed (Dropped ∷ es) sub pid bytes = reported-placed es sub pid bytes
+
+pub reported-noted : (es : List Event) (entry : Entry) → reported_in (es ++ Noted entry ∷ []) ≡ reported_in es
+reported-noted [] entry = refl
+reported-noted (Heard b ∷ es) entry = reported-noted es entry
+reported-noted (Arrived x ∷ es) entry = ap (λ (l : List Job). x.job ∷ l) (reported-noted es entry)
+reported-noted (Changed change ∷ es) entry = reported-noted es entry
+reported-noted (Placed sub pid bytes ∷ es) entry = reported-noted es entry
+reported-noted (Noted other ∷ es) entry = reported-noted es entry
+reported-noted (Restored image ∷ es) entry = reported-noted es entry
+reported-noted (Dropped ∷ es) entry = reported-noted es entry
 
 -- what must come to pass where no report is astray
 pub never_astray : (r : Result Arrival Astray) (P : Type 0) (Q : Astray → Type 0) → OnOk r P → IfErr r Q → ((a : Astray) → Q a → ⊥) → P

@@ -20,7 +20,7 @@ use Rattle.rdm_widget.specs.declared.live_fixture.ending.Ended.{Ended}
 use Rattle.rdm_widget.specs.LiveFixtures.{Situation, IsIn, reported_in, first_ended, after_ended, after_next, after_several, up_to_date, ready}
 use Rattle.rdm_widget.specs.Rigs.{Rig, IsRig, histories, after_line, from_wire}
 use Rattle.rdm_widget.specs.Timing.{Timing, timing_of}
-use Rattle.rdm_widget.proofs.Measured.{courses_setup}
+use Rattle.rdm_widget.proofs.Measured.{come_setup}
 use Rattle.rdm_widget.proofs.Reports.{reported-heard}
 
 -- ---- what the clock does
@@ -38,7 +38,7 @@ pub ready_uids : (now : ℕ) (ss : List Situation) → uids_of (histories (map (
 ready_uids now [] = refl
 ready_uids now (s ∷ ss) =
     ap (λ (setup : Setup). setup.uid ∷ uids_of (histories (map (ready now) ss)))
-    (several_setup (outstanding_count (outbox_of (up_to_date now s).history)) now (up_to_date now s) ∙ courses_setup s.looked now s.courses s.history)
+    (several_setup (outstanding_count (outbox_of (up_to_date now s).history)) now (up_to_date now s) ∙ come_setup s.looked now s.notices s.courses s.history)
     ∙ ap (λ (l : List Uid). s.history.setup.uid ∷ l) (ready_uids now ss)
 
 -- what the clock makes of a fixture
@@ -90,6 +90,7 @@ heard_if d e s bytes true is stands uid kept = record {
   first = ap (λ (t : Timing). t.first_since) kept ∙ is.first;
   second = ap (λ (t : Timing). t.second_since) kept ∙ is.second;
   courses = ap (λ (t : Timing). t.courses) kept ∙ is.courses;
+  notices = ap (λ (t : Timing). t.notices) kept ∙ is.notices;
   looked = ap (λ (t : Timing). t.looked) kept ∙ is.looked;
 }
 heard_if d e s bytes false is stands uid kept = record {
@@ -99,6 +100,7 @@ heard_if d e s bytes false is stands uid kept = record {
   first = ap (λ (t : Timing). t.first_since) kept ∙ is.first;
   second = ap (λ (t : Timing). t.second_since) kept ∙ is.second;
   courses = ap (λ (t : Timing). t.courses) kept ∙ is.courses;
+  notices = ap (λ (t : Timing). t.notices) kept ∙ is.notices;
   looked = ap (λ (t : Timing). t.looked) kept ∙ is.looked;
 }
 

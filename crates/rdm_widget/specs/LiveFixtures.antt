@@ -14,16 +14,18 @@ use Rattle.rdm_responder.specs.Rules.{reply_of}
 use Rattle.rdm_responder.specs.Runs.{outbox_of}
 use Rattle.rdm_responder.specs.StandsFor.{StandsFor}
 use Rattle.rdm_widget.specs.declared.live_fixture.LiveFixture.{LiveFixture}
+use Rattle.rdm_courses.specs.declared.notice.Notice.{Notice}
 use Rattle.rdm_widget.specs.declared.live_fixture.ending.Ended.{Ended}
 use Rattle.rdm_widget.specs.declared.live_fixture.measuring.SensorCourse.{SensorCourse}
-use Rattle.rdm_widget.specs.Measuring.{after_courses}
+use Rattle.rdm_widget.specs.Measuring.{after_courses, after_notices}
 use Rattle.rdm_messages.specs.Hearing.{Hearing}
 
--- By which rules jobs end, what sensors show over time, what has happened to the responder, since when each worker is at its oldest job,
--- and until when the sensors have been looked at, if they were. A worker without a job may begin one from then on.
+-- By which rules jobs end, what sensors show over time, which status messages come, what has happened to the responder, since when each
+-- worker is at its oldest job, and when it was looked last what has come, if it was. A worker without a job may begin one from then on.
 pub record Situation : Type 0 where
   pub rules : List Rule
   pub courses : List SensorCourse
+  pub notices : List Notice
   pub history : History
   pub first_since : ℕ
   pub second_since : ℕ
@@ -31,11 +33,15 @@ pub record Situation : Type 0 where
 
 -- the fixture is switched on
 abbrev pub switched_on : List Rule → Setup → Situation
-switched_on rules setup = record { rules = rules; courses = []; history = empty_history setup; first_since = 0; second_since = 0; looked = None }
+switched_on rules setup = record { rules = rules; courses = []; notices = []; history = empty_history setup; first_since = 0; second_since = 0; looked = None }
 
 -- its sensors are to follow these courses
 abbrev pub following : List SensorCourse → Situation → Situation
 following courses s = record s { courses = courses }
+
+-- it is to have these status messages
+abbrev pub telling : List Notice → Situation → Situation
+telling notices s = record s { notices = notices }
 
 -- ---- when jobs end
 
@@ -127,13 +133,16 @@ begun now s = record s {
 abbrev pub reported : ℕ → Situation → Situation
 reported now s = begun now (after_several (outstanding_count (outbox_of s.history)) now s)
 
--- ---- what sensors show over time
+-- ---- what comes by itself
 
--- the sensors have shown by now what their courses say
+-- the sensors have shown by now what their courses say, and the status messages that have come are noted
 abbrev pub up_to_date : ℕ → Situation → Situation
-up_to_date now s = record s { history = after_courses s.looked now s.courses s.history; looked = Some now }
+up_to_date now s = record s {
+  history = after_notices s.looked now s.notices (after_courses s.looked now s.courses s.history);
+  looked = Some now;
+}
 
--- Before a request is heard, the sensors show what they are to, and then the jobs that have ended are reported.
+-- Before a request is heard, what has come by itself is placed and noted, and then the jobs that have ended are reported.
 abbrev pub ready : ℕ → Situation → Situation
 ready now s = reported now (up_to_date now s)
 
@@ -164,6 +173,7 @@ pub record IsIn (d : LiveFixture) (s : Situation) : Type 0 where
   pub first : d.first_since ≡ s.first_since
   pub second : d.second_since ≡ s.second_since
   pub courses : d.courses.items ≡ s.courses
+  pub notices : d.notices.items ≡ s.notices
   pub looked : d.looked ≡ s.looked
 
 -- A fixture on a line: before it hears a request, it is made ready.

@@ -1,13 +1,15 @@
--- What becomes of a responder whose sensors show something over time. E1.20 section 10.7.2.
-use Rattle.std.specs.Prelude.{ℕ, ℤ, List, [], ◌∷◌, Option, Some, None}
+-- What becomes of a responder whose sensors show something over time (E1.20 section 10.7.2), and which has status messages of its own.
+use Rattle.std.specs.Prelude.{ℕ, ℤ, if◌then◌else◌, List, [], ◌∷◌, Option, Some, None}
 use Rattle.rdm_commands.specs.declared.placing.PlaceError.{PlaceError}
 use Rattle.rdm_commands.specs.declared.verdict.Verdict.{Verdict}
 use Rattle.rdm_commands.specs.declared.verdict.Verdict.TheVariants.{Reply}
 use Rattle.rdm_commands.specs.Commands.Commands.{got}
 use Rattle.rdm_commands.specs.Commands.Placing.{place_refusal}
+use Rattle.rdm_courses.specs.declared.notice.Notice.{Notice}
 use Rattle.rdm_courses.specs.Courses.{shown_since}
+use Rattle.rdm_courses.specs.Notices.{notice_comes, entry_of}
 use Rattle.rdm_device.specs.Device.Measuring.{measured}
-use Rattle.rdm_responder.specs.History.{History, Placed, then_event}
+use Rattle.rdm_responder.specs.History.{History, Noted, Placed, then_event}
 use Rattle.rdm_responder.specs.Laws.{values_of}
 use Rattle.rdm_widget.specs.declared.live_fixture.measuring.SensorCourse.{SensorCourse}
 
@@ -40,3 +42,15 @@ after_values number (v ∷ vs) h = after_values number vs (after_value h number 
 abbrev pub after_courses : Option ℕ → ℕ → List SensorCourse → History → History
 after_courses looked now [] h = h
 after_courses looked now (c ∷ cs) h = after_courses looked now cs (after_values c.sensor (shown_since c.course looked now) h)
+
+-- ---- status messages
+
+-- a message that has come since the last look is noted, once
+abbrev pub after_notice : Option ℕ → ℕ → Notice → History → History
+after_notice looked now n h = if notice_comes n looked now then then_event h (Noted (entry_of n)) else h
+
+-- And so is each of them, one after the other. Section 10.3.2.
+abbrev pub after_notices : Option ℕ → ℕ → List Notice → History → History
+after_notices looked now [] h = h
+after_notices looked now (n ∷ ns) h =
+    after_notices looked now ns (after_notice looked now n h)

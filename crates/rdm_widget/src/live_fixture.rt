@@ -12,7 +12,7 @@ ghost use Rattle.rdm_responder.specs.Runs.{IsChange, outbox_of};
 ghost use Rattle.rdm_responder.specs.Settings.{HasBadProfile, HasBadSize, HasBadUid, setup_with, usual_settings};
 ghost use Rattle.rdm_responder.specs.StandsFor.{StandsFor};
 ghost use Rattle.rdm_saved.specs.Restoring.{restore_refusal};
-ghost use Rattle.rdm_widget.specs.LiveFixtures.{Situation, IsIn, switched_on, worker_in, oldest_of, first_ended, after_report, after_next, after_several, begun, reported, following, up_to_date, ready, after_heard, after_panel, after_placing, after_restore};
+ghost use Rattle.rdm_widget.specs.LiveFixtures.{Situation, IsIn, switched_on, worker_in, oldest_of, first_ended, after_report, after_next, after_several, begun, reported, following, telling, up_to_date, ready, after_heard, after_panel, after_placing, after_restore};
 
 mod ending;
 mod measuring;
@@ -21,7 +21,8 @@ mod on_rig;
 use arrayvec::ArrayVec;
 use ending::{Ended, earlier, ended_by, since_after, since_when};
 pub use measuring::SensorCourse;
-use measuring::follow_all;
+use measuring::{follow_all, note_all};
+use rdm_courses::Notice;
 use rdm_frame::{Uid, Wire};
 use rdm_outcomes::{MOST_RULES, Planned, Rule, outcomes_fit};
 use rdm_params::{Change, Message, PlaceError, Profile, started_work_is_its_command};
@@ -40,7 +41,9 @@ pub struct LiveFixture {
     second_since: u64,
     // What sensors show over time.
     courses: Vec<SensorCourse>,
-    // Until when they have been looked at, in milliseconds, if they were.
+    // The status messages that come by themselves.
+    notices: Vec<Notice>,
+    // When it was looked last what has come, in milliseconds, if it was.
     looked: Option<u64>,
 }
 
@@ -69,6 +72,7 @@ impl LiveFixture {
                 first_since: 0,
                 second_since: 0,
                 courses: Vec::new(alloc),
+                notices: Vec::new(alloc),
                 looked: None,
             }),
             Err(error) => Err(error),
@@ -80,6 +84,13 @@ impl LiveFixture {
         ensures { (s : Situation) → IsIn self.old s → IsIn self.new (following courses.items s) }
     {
         self.courses = courses;
+    }
+
+    /// Has these status messages come at their times, which are since power-on.
+    pub fn tell(&mut self, notices: Vec<Notice>)
+        ensures { (s : Situation) → IsIn self.old s → IsIn self.new (telling notices.items s) }
+    {
+        self.notices = notices;
     }
 
     /// Changes a parameter of the root, as a person does at the fixture's own menu. The message of it waits to be told as any
@@ -146,7 +157,8 @@ impl LiveFixture {
         self.responder.step_into(request, reply).replied
     }
 
-    /// Makes the fixture what it is at this time: sensors show what they are to, and jobs that have ended are reported.
+    /// Makes the fixture what it is at this time: sensors show what they are to, status messages that have come are noted, and jobs that
+    /// have ended are reported.
     pub(crate) fn make_ready(&mut self, now: u64)
         ensures { (s : Situation) → IsIn self.old s → IsIn self.new (ready now s) }
     {
@@ -154,13 +166,19 @@ impl LiveFixture {
         self.report_all(now);
     }
 
-    /// Has the sensors measure what their courses say since the last look.
+    /// Has the sensors measure what their courses say since the last look, and notes the status messages that have come since.
     fn follow_courses(&mut self, now: u64)
         ensures { (s : Situation) → IsIn self.old s → IsIn self.new (up_to_date now s) }
     {
         follow_all(
             &mut self.responder,
             self.courses.as_slice(),
+            self.looked,
+            now,
+        );
+        note_all(
+            &mut self.responder,
+            self.notices.as_slice(),
             self.looked,
             now,
         );

@@ -113,7 +113,7 @@ fn beside_an_outcome(refusal: Refusal) -> Refusal
     }
 }
 
-fn out_of_range(key: &str, least: i64, most: i64) -> Refusal
+pub(crate) fn out_of_range(key: &str, least: i64, most: i64) -> Refusal
     ensures { told result ≡ fault key.now (wanted.Number least most) }
 {
     Refusal::at(key, Wanted::Number { least, most })

@@ -2,6 +2,7 @@
 
 ghost use Rattle.std.specs.Prelude.{◌≡◌, ◌↔◌, ◌≤◌, IsTrue, All, length};
 ghost use Rattle.rdm_fixture.specs.Describable as spec;
+ghost use Rattle.rdm_fixture.specs.Notices.{comes_again as says_again};
 ghost use Rattle.rdm_fixture.specs.OverTime.{AreCourses};
 ghost use Rattle.rdm_fixture.specs.Working as spec_of_work;
 ghost use Rattle.rdm_fixture_keys.specs.Values.{is_letter as is_small_letter};
@@ -10,6 +11,7 @@ use crate::courses::are_courses;
 use crate::fixture::Fixture;
 use crate::parameters::{can_reset, greatest_of, least_of};
 use crate::working::can_work;
+use rdm_courses::Notice;
 use rdm_device::{
     ChoiceName, ParameterDef, Personality, Profile, SelfTest, SensorDef, Shape, Slot, StatusText,
     Unit, is_good,
@@ -38,13 +40,45 @@ pub(super) fn can_be_described(fixture: &Fixture) -> bool
 /// Whether it says of each sensor, and of no other, what it has measured and what it shows over time, and nothing in vain.
 fn starts_and_works(fixture: &Fixture) -> bool
     ensures { IsTrue result ↔ ((length fixture.now.start.presents.items ≡ length fixture.now.profile.sensors.items)
-        × AreCourses fixture.now.start.courses.items fixture.now.profile.sensors.items × spec_of_work.CanWork fixture.now) }
+        × AreCourses fixture.now.start.courses.items fixture.now.profile.sensors.items
+        × All (λ n. IsTrue (spec.is_noticed n)) fixture.now.start.notices.items × spec_of_work.CanWork fixture.now) }
 {
     fixture.start.presents.len() == fixture.profile.sensors.len()
         && (are_courses(
             fixture.start.courses.as_slice(),
             fixture.profile.sensors.as_slice(),
-        ) && can_work(fixture))
+        ) && (are_noticed(fixture.start.notices.as_slice()) && can_work(fixture)))
+}
+
+fn are_noticed(notices: &[Notice]) -> bool
+    ensures { IsTrue result ↔ All (λ n. IsTrue (spec.is_noticed n)) notices.now }
+{
+    notices.iter().all(|n| is_noticed(n))
+}
+
+/// Whether a status message can stand in a file.
+fn is_noticed(notice: &Notice) -> bool
+    ensures { result ≡ spec.is_noticed notice.now }
+{
+    comes_again(notice.every) && (notice.sub <= 512 && is_base_form(notice.severity))
+}
+
+fn comes_again(every: Option<u32>) -> bool
+    ensures { result ≡ says_again every }
+{
+    match every {
+        Some(every) => 1 <= every,
+        None => true,
+    }
+}
+
+fn is_base_form(severity: Severity) -> bool
+    ensures { result ≡ spec.is_base_form severity }
+{
+    matches!(
+        severity,
+        Severity::Advisory | Severity::Warning | Severity::Error
+    )
 }
 
 // ---- the parameters that the profile adds

@@ -135,6 +135,12 @@ fn put_rest(alloc: Global, table: &mut Table, fixture: &Fixture) -> Result<(), A
         "workers",
         workers_of(alloc, &profile.workers)?,
     )?;
+    put(
+        alloc,
+        table,
+        "status_message",
+        list_of(alloc, fixture.start.notices.as_slice())?,
+    )?;
     Ok(())
 }
 

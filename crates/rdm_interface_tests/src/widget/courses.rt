@@ -1,9 +1,10 @@
-//! Sensors that show something over time.
+//! Sensors that show something over time, and status messages that come at their times.
 
 use super::fixture_of;
 use super::time::{Turn, answers_in_time};
 use arrayvec::ArrayVec;
-use rdm_courses::{Course, Point, Way};
+use rdm_courses::{Course, Notice, Point, Way};
+use rdm_frame::Severity;
 use rdm_params::Profile;
 use rdm_widget::{LiveFixture, SensorCourse};
 use std::process::Abort;
@@ -171,4 +172,62 @@ fn warming_up(rt: &(impl AllocGlobal + Abort)) -> LiveFixture {
 #[test]
 fn a_sensor_follows_its_course(rt: HostRuntime) {
     answers_in_time(&rt, &mut warming_up(&rt), WARMS_UP);
+}
+
+/// STATUS_MESSAGES: a warning comes after two seconds, and every ten seconds again, and an error after thirty. What came several times since
+/// the last request is told once.
+const MESSAGES: &[Turn] = &[
+    Turn {
+        at: 1999,
+        asked: "CC01197FF0000000017FF00000000200010000002000300102041B",
+        told: "CC01187FF0000000027FF0000000010000000000210030000417",
+    },
+    Turn {
+        at: 2000,
+        asked: "CC01197FF0000000017FF00000000201010000002000300102041C",
+        told: "CC01217FF0000000027FF0000000010100000000210030090000030050000100020480",
+    },
+    Turn {
+        at: 11999,
+        asked: "CC01197FF0000000017FF00000000202010000002000300102041D",
+        told: "CC01187FF0000000027FF0000000010200000000210030000419",
+    },
+    Turn {
+        at: 12000,
+        asked: "CC01197FF0000000017FF00000000203010000002000300102041E",
+        told: "CC01217FF0000000027FF0000000010300000000210030090000030050000100020482",
+    },
+    Turn {
+        at: 50000,
+        asked: "CC01197FF0000000017FF00000000204010000002000300102041F",
+        told: "CC012A7FF0000000027FF00000000104000000002100301200000300500001000200000400510000000004EA",
+    },
+];
+
+#[test]
+fn status_messages_come_at_their_times(rt: HostRuntime) {
+    let mut fixture = fixture_of(&rt, 1, Profile::demo(0));
+    let warning = Notice {
+        at: 2,
+        every: Some(10),
+        sub: 0,
+        severity: Severity::Warning,
+        id: 0x0050,
+        v1: 1,
+        v2: 2,
+    };
+    let error = Notice {
+        at: 30,
+        every: None,
+        severity: Severity::Error,
+        id: 0x0051,
+        v1: 0,
+        v2: 0,
+        ..warning
+    };
+    let mut notices = Vec::new(rt.alloc());
+    notices.push(warning).expect(&rt, "memory");
+    notices.push(error).expect(&rt, "memory");
+    fixture.tell(notices);
+    answers_in_time(&rt, &mut fixture, MESSAGES);
 }

@@ -1,4 +1,4 @@
-//! What sensors show over time.
+//! What sensors show over time, and status messages.
 
 ghost use Rattle.std.specs.Prelude.{◌≡◌, [], ◌∷◌, ◌++◌};
 ghost use Rattle.std.specs.Int.{int_min, int_max};
@@ -12,7 +12,7 @@ ghost use Rattle.rdm_widget.specs.Measuring as says;
 
 use arrayvec::ArrayVec;
 use rdm_commands::Verdict;
-use rdm_courses::Course;
+use rdm_courses::{Course, Notice};
 use rdm_frame::standard::ROOT_DEVICE;
 use rdm_params::Kind;
 use rdm_responder::Responder;
@@ -112,4 +112,22 @@ fn greatest_of(a: i16, b: i16) -> i16
     ensures { result ≡ int_max a b }
 {
     a.max(b)
+}
+
+/// Notes each status message that has come since the last look.
+pub(super) fn note_all(responder: &mut Responder, notices: &[Notice], looked: Option<u64>, now: u64)
+    ensures { (h : History) → StandsFor responder.old h → StandsFor responder.new (says.after_notices looked now notices.now h) }
+{
+    for notice in notices {
+        note(responder, notice, looked, now);
+    }
+}
+
+/// Notes a status message if it has come since the last look.
+fn note(responder: &mut Responder, notice: &Notice, looked: Option<u64>, now: u64)
+    ensures { (h : History) → StandsFor responder.old h → StandsFor responder.new (says.after_notice looked now notice.now h) }
+{
+    if notice.has_come(looked, now) {
+        let _ = responder.note(notice.entry());
+    }
 }

@@ -39,6 +39,11 @@ returns-in_err-list-2-clause-wrong c =
     exit (FirstWrong starting_parts (table_view c.args.table.now)) _ _ c.from_residual-in_err-list-2.ensures.1
     (inr (free_right 0 (number 0 0xFFFFFFFF) (get_member (codes "device_hours") (table_view c.args.table.now)) _ c.in_ok-number_or.ensures.value, inr (free_right 0 (number 0 0xFFFFFFFF) (get_member (codes "lamp_hours") (table_view c.args.table.now)) _ c.in_ok-number_or-2.ensures.value, inr (free_right 0 (number 0 0xFFFFFFFF) (get_member (codes "lamp_strikes") (table_view c.args.table.now)) _ c.in_ok-number_or-3.ensures.value, inr (free_right 0 (number 0 0xFFFFFFFF) (get_member (codes "device_power_cycles") (table_view c.args.table.now)) _ c.in_ok-number_or-4.ensures.value, inr ((c.in_ok-list.field-0.items, c.in_ok-list.ensures.read), inl c.in_err-list-2.ensures.wrong))))))
 
+pub returns-in_err-list-3-clause-wrong : goal.returns-in_err-list-3-clause-wrong
+returns-in_err-list-3-clause-wrong c =
+    exit (FirstWrong starting_parts (table_view c.args.table.now)) _ _ c.from_residual-in_err-list-3.ensures.1
+    (inr (free_right 0 (number 0 0xFFFFFFFF) (get_member (codes "device_hours") (table_view c.args.table.now)) _ c.in_ok-number_or.ensures.value, inr (free_right 0 (number 0 0xFFFFFFFF) (get_member (codes "lamp_hours") (table_view c.args.table.now)) _ c.in_ok-number_or-2.ensures.value, inr (free_right 0 (number 0 0xFFFFFFFF) (get_member (codes "lamp_strikes") (table_view c.args.table.now)) _ c.in_ok-number_or-3.ensures.value, inr (free_right 0 (number 0 0xFFFFFFFF) (get_member (codes "device_power_cycles") (table_view c.args.table.now)) _ c.in_ok-number_or-4.ensures.value, inr ((c.in_ok-list.field-0.items, c.in_ok-list.ensures.read), inr ((c.in_ok-list-2.field-0.items, c.in_ok-list-2.ensures.read), inl c.in_err-list-3.ensures.wrong)))))))
+
 pub returns-clause-read : goal.returns-clause-read
 returns-clause-read c = record {
   counted = record {
@@ -49,6 +54,7 @@ returns-clause-read c = record {
   };
   presents = c.in_ok-list.ensures.read;
   courses = c.in_ok-list-2.ensures.read;
+  notices = c.in_ok-list-3.ensures.read;
 }
 
 pub returns-in_err-number_or-clause-read : goal.returns-in_err-number_or-clause-read
@@ -68,3 +74,6 @@ returns-in_err-list-clause-read c = Reads-err IsStarting _ _ c.from_residual-in_
 
 pub returns-in_err-list-2-clause-read : goal.returns-in_err-list-2-clause-read
 returns-in_err-list-2-clause-read c = Reads-err IsStarting _ _ c.from_residual-in_err-list-2.ensures.0 (λ s h. c.in_err-list-2.ensures.read s.courses h.courses)
+
+pub returns-in_err-list-3-clause-read : goal.returns-in_err-list-3-clause-read
+returns-in_err-list-3-clause-read c = Reads-err IsStarting _ _ c.from_residual-in_err-list-3.ensures.0 (λ s h. c.in_err-list-3.ensures.read s.notices h.notices)

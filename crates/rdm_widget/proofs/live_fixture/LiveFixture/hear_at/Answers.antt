@@ -17,5 +17,6 @@ returns-clause-fixture c = λ s is.
       first = made.first;
       second = made.second;
       courses = made.courses;
+      notices = made.notices;
       looked = made.looked;
     }

@@ -40,5 +40,6 @@ returns c = λ s is oldest.
       first = c.since_after-self.ensures ∙ ap (λ n. since_after 0 c.args.ended.now n) is.first;
       second = c.since_after-self-2.ensures ∙ ap (λ n. since_after 1 c.args.ended.now n) is.second;
       courses = is.courses;
+      notices = is.notices;
       looked = is.looked;
     }

@@ -22,5 +22,6 @@ returns-clause-fixture c =
       first = is.first;
       second = is.second;
       courses = is.courses;
+      notices = is.notices;
       looked = is.looked;
     })
