@@ -22,7 +22,7 @@ use Rattle.rdm_line.proofs.Searching.{requests_are_heard, requests_mute}
 use Rattle.rdm_messages.specs.Framing.{Message}
 use Rattle.rdm_messages.specs.Protocol.{after_message}
 use Rattle.rdm_messages.specs.Serving.{Turn, after_turns, messages_in, replies_in}
-use Rattle.rdm_widget.specs.LiveFixtures.{Situation as Standing, after_ended, after_next, after_several, first_ended, ready, report_of}
+use Rattle.rdm_widget.specs.LiveFixtures.{Situation as Standing, after_ended, after_next, after_several, first_ended, ready, report_of, up_to_date}
 use Rattle.rdm_widget.specs.Rigs.{Rig, after_line, from_wire, histories, rig_hearing}
 use Rattle.rdm_widget.proofs.Rigs.{ready_uids}
 use Rattle.rdm_interface.specs.Answers.{request_message}
@@ -30,6 +30,7 @@ use Rattle.rdm_interface.specs.Askings.{AreDevices, AreHeardOf, Asking, IsAsking
 use Rattle.rdm_line_ends.specs.Ends.{requests_in}
 use Rattle.rdm_line_ends.specs.Searches.{HasUids, RigIsFound, standing}
 use Rattle.rdm_line_ends.proofs.Asking.{all_sent}
+use Rattle.rdm_line_ends.proofs.Coming.{come_fixture}
 use Rattle.rdm_line_ends.proofs.Fixtures.{line_uids, rig_is_heard}
 use Rattle.rdm_line_ends.proofs.Streams.{message_is, messages_are, no_messages, some_messages}
 use Rattle.rdm_line_ends.proofs.Together.{label_is, turns_are}
@@ -60,7 +61,9 @@ two_fixtures f g fs gs e e' = rw (e, e') refl
 ready_fixtures : (now : ℕ) (ss : List Standing) → map fixture_of (histories (map (ready now) ss)) ≡ map fixture_of (histories ss)
 ready_fixtures now [] = refl
 ready_fixtures now (s ∷ ss) =
-    two_fixtures _ _ _ _ (several_fixture (outstanding_count (outbox_of s.history)) now s) (ready_fixtures now ss)
+    two_fixtures _ _ _ _
+    (several_fixture (outstanding_count (outbox_of (up_to_date now s).history)) now (up_to_date now s) ∙ come_fixture s.looked now s.notices s.courses s.history)
+    (ready_fixtures now ss)
 
 line_fixtures : (bytes : List ℕ) (ss : List Standing) → map fixture_of (histories (map (after_line bytes) ss)) ≡ map fixture_of (map (heard_by bytes) (histories ss))
 line_fixtures bytes [] = refl

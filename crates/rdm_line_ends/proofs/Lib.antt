@@ -8,6 +8,7 @@ pub mod Replying
 pub mod Wires
 pub mod Streams
 pub mod Asking
+mod Coming
 pub mod Together
 pub mod Fixtures
 pub mod Finding
