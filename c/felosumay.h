@@ -72,9 +72,9 @@ enum {
     FELOSUMAY_NOT_STORED = 18,   /* the device stores no value of the parameter */
     FELOSUMAY_BAD_LENGTH = 19,   /* the data don't have the length of the value */
     FELOSUMAY_SHORT_IMAGE = 20,  /* there is no room for the image */
-    FELOSUMAY_IMAGE_LENGTH = 21, /* the image is truncated, or has the wrong length for these values: it is from other devices */
+    FELOSUMAY_IMAGE_LENGTH = 21, /* the image is truncated, or has another length than it says */
     FELOSUMAY_ALTERED_IMAGE = 22, /* the image is altered, or isn't an image */
-    FELOSUMAY_FOREIGN_IMAGE = 23, /* the image is of another profile, or of another key */
+    FELOSUMAY_FOREIGN_IMAGE = 23, /* the image is of another manufacturer or model, or of another key */
     FELOSUMAY_NO_REPLY = 24,      /* the bytes aren't a response */
     FELOSUMAY_IN_USE = 25,        /* another responder occupies the memory */
     FELOSUMAY_UNALIGNED = 26,     /* the memory doesn't begin at a multiple of 16 */
@@ -448,17 +448,34 @@ static inline felosumay_result felosumay_responder_place(felosumay_responder *re
  * these are orders (FELOSUMAY_CC_SET), how many scenes PRESET_STATUS has, and how many parameters it omits. No profile has more than
  * FELOSUMAY_MOST_SAVED_BYTES.
  * The program stores images where it likes, such as in two areas of flash (felosumay_images.h); one that is truncated or altered is
- * rejected. DEVICE_POWER_CYCLES counts one more than was saved (E1.20 section 10.8.6). `restore` queues no message, and jobs, messages and
+ * rejected. After an update of the firmware, `restore` takes the image of the older version, too: of the same manufacturer and model, but
+ * with another software version, or with other personalities, languages, sensors, sub-devices, parameters or scenes. Then each value is
+ * restored that both versions have and this one accepts, and the others stay as they are. DEVICE_POWER_CYCLES counts one more than was saved (E1.20 section 10.8.6). `restore` queues no message, and jobs, messages and
  * status entries stay.
  * `saved_size`: ABSENT. `save`: ABSENT, SHORT_IMAGE; nothing is written then. `restore`: ABSENT, IMAGE_LENGTH, ALTERED_IMAGE,
  * FOREIGN_IMAGE, in this order; nothing changes then. */
 #define FELOSUMAY_SAVED_BYTES(sub_devices, sensors, parameters, orders, scenes, without)                                   \
-    (82 + 46 * (uint64_t)(sub_devices) + 2 * (uint64_t)(sensors) + 37 * (uint64_t)(parameters) + 33 * (uint64_t)(orders) + \
-     33 * (uint64_t)(scenes) + 2 * (uint64_t)(without))
+    (88 + 46 * (uint64_t)(sub_devices) + 2 * (uint64_t)(sensors) + 41 * (uint64_t)(parameters) + 37 * (uint64_t)(orders) + \
+     37 * (uint64_t)(scenes) + 2 * (uint64_t)(without))
 #define FELOSUMAY_MOST_SAVED_BYTES FELOSUMAY_SAVED_BYTES(512, 8, 32, 32, 255, 36)
 felosumay_result felosumay_responder_saved_size(const felosumay_responder *responder, uint64_t *count);
 felosumay_result felosumay_responder_save(const felosumay_responder *responder, uint8_t *image, uint64_t size, uint64_t *count);
 static inline felosumay_result felosumay_responder_restore(felosumay_responder *responder, const uint8_t *image, uint64_t length);
+
+/* A value of an older image. */
+typedef struct {
+    uint64_t number; /* its number in that image, from 0 */
+    uint16_t sub;    /* 0 for the root, or the number of the sub-device */
+    uint16_t pid;    /* of a sensor it is SENSOR_VALUE */
+    uint16_t index;  /* the number of the sensor or of the scene, else 0 */
+} felosumay_left;
+
+/* After an update `left` says which values of the older image weren't taken over: restore the older image, save, and compare both images.
+ * It finds the first value, from number `from` on, that the newer image doesn't have; ask again from `left->number + 1` for the next one.
+ * DEVICE_POWER_CYCLES is always among them, since `restore` counts one more. NO_MORE: there is none; `left` stays then. Bytes that are no
+ * image have no values. */
+static inline felosumay_result felosumay_saved_left(const uint8_t *older, uint64_t older_length, const uint8_t *newer,
+                                                    uint64_t newer_length, uint64_t from, felosumay_left *left);
 
 /* The firmware reports a problem, such as a blocked fan, as a status entry of the root (`sub` 0) or of a
  * sub-device, 1 to 512. A controller receives it once, with STATUS_MESSAGES (E1.20 section 10.3.2). `severity` is the status type
@@ -803,6 +820,14 @@ static inline felosumay_result felosumay_responder_restore(felosumay_responder *
     return felosumay_responder_restore_nonnull(responder, felosumay_bytes(image, length), length);
 }
 
+felosumay_result felosumay_saved_left_nonnull(const uint8_t *older, uint64_t older_length, const uint8_t *newer, uint64_t newer_length,
+                                              uint64_t from, felosumay_left *left);
+static inline felosumay_result felosumay_saved_left(const uint8_t *older, uint64_t older_length, const uint8_t *newer,
+                                                    uint64_t newer_length, uint64_t from, felosumay_left *left) {
+    return felosumay_saved_left_nonnull(felosumay_bytes(older, older_length), older_length, felosumay_bytes(newer, newer_length),
+                                        newer_length, from, left);
+}
+
 felosumay_result felosumay_images_read_nonnull(uint32_t key, const uint8_t *bytes, uint64_t length, felosumay_image *image);
 static inline felosumay_result felosumay_images_read(uint32_t key, const uint8_t *bytes, uint64_t length, felosumay_image *image) {
     return felosumay_images_read_nonnull(key, felosumay_bytes(bytes, length), length, image);
@@ -954,6 +979,8 @@ FELOSUMAY_ASSERT(sizeof(felosumay_outcome) == 10);
 FELOSUMAY_ASSERT(sizeof(felosumay_at_job) == 16);
 FELOSUMAY_ASSERT(offsetof(felosumay_at_job, there) == 12);
 FELOSUMAY_ASSERT(sizeof(felosumay_deadlines) == 32);
+FELOSUMAY_ASSERT(sizeof(felosumay_left) == 16);
+FELOSUMAY_ASSERT(offsetof(felosumay_left, index) == 12);
 FELOSUMAY_ASSERT(sizeof(felosumay_image) == 6);
 FELOSUMAY_ASSERT(offsetof(felosumay_image, there) == 4);
 FELOSUMAY_ASSERT(sizeof(felosumay_receiver) == 260);

@@ -69,6 +69,11 @@ inline std::uint8_t frame_fault(bytes heard) noexcept { return felosumay_frame_f
 // The first rule that a profile breaks, FELOSUMAY_FAULT_.., or FELOSUMAY_NO_FAULT.
 inline std::uint8_t profile_fault(const felosumay_profile &profile) noexcept { return felosumay_profile_fault(&profile); }
 
+// Which value of an older image, from a number on, a newer image doesn't have: what an update didn't take over.
+inline result saved_left(bytes older, bytes newer, std::uint64_t from, felosumay_left &left) noexcept {
+    return felosumay_saved_left(older.data(), older.size(), newer.data(), newer.size(), from, &left);
+}
+
 // What an area of flash holds; which of two areas has the newest image; and which one is erased for the next image, with the header to
 // write there in front of the payload. felosumay_images.h loads and saves with them.
 using image_header = std::array<std::uint8_t, FELOSUMAY_IMAGE_HEADER_BYTES>;

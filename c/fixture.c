@@ -220,7 +220,7 @@ static void refuse(felosumay_responder *fixture) {
     printf("513 cells: %u\n", felosumay_responder_demo(fixture, MAKER, FIXTURE, 513, QUEUE_SIZE));
 }
 
-/* Images that aren't restored: a truncated one, one with an altered byte, and one of a fixture with one more sub-device. */
+/* Images that aren't restored: a truncated one, one with an altered byte, and one of a fixture of another manufacturer. */
 static void misread(felosumay_responder *fixture, const uint8_t *image, uint64_t count) {
     uint8_t other[IMAGE_BYTES];
     memcpy(other, image, count);

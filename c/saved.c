@@ -1,11 +1,13 @@
 /* The images of values that outlive power-off (felosumay_responder_save): of each profile they have as many bytes as FELOSUMAY_SAVED_BYTES
- * says of its counts, and no profile has more than FELOSUMAY_MOST_SAVED_BYTES. It prints what differs, and then ends with status 1. */
+ * says of its counts, and no profile has more than FELOSUMAY_MOST_SAVED_BYTES. An image of each is restored by each other one, as after an
+ * update. It prints what differs, and then ends with status 1. */
 #include "felosumay.h"
 #include "felosumay_names.h"
+#include "felosumay_values.h"
 #include <stdio.h>
 #include <string.h>
 
-enum { MAKER = 0x7FF0, MOST_OWN = 32, MOST_WITHOUT = 36 };
+enum { MAKER = 0x7FF0, MOST_OWN = 32, MOST_WITHOUT = 36, ADDRESS = 300, MANY = 512 };
 
 /* What an image depends on, and no more. */
 typedef struct {
@@ -29,7 +31,7 @@ static const uint16_t OPTIONAL[] = {
 
 static felosumay_profile profile;
 static felosumay_parameter parameters[MOST_OWN];
-static uint8_t image[FELOSUMAY_MOST_SAVED_BYTES];
+static uint8_t image[FELOSUMAY_MOST_SAVED_BYTES], newer[FELOSUMAY_MOST_SAVED_BYTES];
 static int failed;
 
 static void expect(const char *what, const counts *row, uint64_t got, uint64_t wanted) {
@@ -46,6 +48,7 @@ static void describe(const counts *row) {
     memset(parameters, 0, sizeof parameters);
     profile.root.personality_count = profile.sub.personality_count = 1;
     profile.root.start = profile.sub.start = 1;
+    profile.root.personalities[0].footprint = profile.slot_count = 1;
     profile.language_count = 1;
     profile.subs = row->sub_devices;
     profile.sensor_count = row->sensors;
@@ -87,11 +90,78 @@ static felosumay_result try_row(const counts *row) {
     return result;
 }
 
+static uint64_t address_of(felosumay_responder *fixture) {
+    uint16_t address = 0;
+    return felosumay_get_u16(fixture, 0, FELOSUMAY_PID_DMX_START_ADDRESS, &address) == FELOSUMAY_DONE ? address : 0;
+}
+
+/* How many values of the one image the other one doesn't have. */
+static uint64_t left_count(uint64_t older_count, uint64_t newer_count) {
+    felosumay_left left = {0, 0, 0, 0};
+    uint64_t from = 0, found = 0;
+    while (felosumay_saved_left(image, older_count, newer, newer_count, from, &left) == FELOSUMAY_DONE) {
+        from = left.number + 1;
+        found++;
+    }
+    return found;
+}
+
+static uint64_t more(uint64_t had, uint64_t has) {
+    return had > has ? had - has : 0;
+}
+
+/* How many are left by such an update, of values that are as they were at first but for the address: DEVICE_POWER_CYCLES, and those of
+ * sub-devices, with 7 values each, sensors and own parameters that are gone. An order has a second value, and PRESET_STATUS one for each
+ * scene. */
+static uint64_t left_by(const counts *before, const counts *after) {
+    uint64_t left = 1 + 7 * more(before->sub_devices, after->sub_devices) + more(before->sensors, after->sensors);
+    for (uint8_t i = 0; i < before->parameters; i++) {
+        const int is_order = i + before->orders >= before->parameters, is_scenes = i == 0 && before->scenes > 0;
+        const int stays = i < after->parameters && (i > 0 || (before->scenes > 0) == (after->scenes > 0));
+        const int stays_order = stays && i + after->orders >= after->parameters;
+        left += (stays ? 0 : 1) + (is_order && !stays_order ? 1 : 0);
+        if (is_scenes)
+            left += stays ? more(before->scenes, after->scenes) : before->scenes;
+    }
+    return left;
+}
+
+/* An update turns the fixture of one row into that of another: the image of the one is restored in the other, and the address stays. */
+static felosumay_result update(const counts *before, const counts *after) {
+    felosumay_responder fixture = {0};
+    uint64_t count = 0, newer_count = 0;
+    describe(before);
+    felosumay_result result = felosumay_responder_new(&fixture, MAKER, 1, &profile, 1);
+    if (result == FELOSUMAY_DONE) {
+        expect("place", before, felosumay_place_u16(&fixture, 0, FELOSUMAY_PID_DMX_START_ADDRESS, ADDRESS), FELOSUMAY_DONE);
+        expect("save", before, felosumay_responder_save(&fixture, image, sizeof image, &count), FELOSUMAY_DONE);
+    }
+    felosumay_responder_free(&fixture);
+    describe(after);
+    profile.root.software = 2;
+    if (result == FELOSUMAY_DONE)
+        result = felosumay_responder_new(&fixture, MAKER, 1, &profile, 1);
+    if (result == FELOSUMAY_DONE) {
+        expect("restore after an update", after, felosumay_responder_restore(&fixture, image, count), FELOSUMAY_DONE);
+        expect("the address", after, address_of(&fixture), ADDRESS);
+        expect("save after an update", after, felosumay_responder_save(&fixture, newer, sizeof newer, &newer_count), FELOSUMAY_DONE);
+        if (before->sub_devices < MANY || after->sub_devices < MANY)
+            expect("what is left", after, left_count(count, newer_count), left_by(before, after));
+    }
+    felosumay_responder_free(&fixture);
+    return result;
+}
+
 int main(void) {
+    const size_t rows = sizeof ROWS / sizeof *ROWS;
     felosumay_result result = FELOSUMAY_DONE;
-    for (size_t i = 0; i < sizeof ROWS / sizeof *ROWS && result == FELOSUMAY_DONE; i++) {
+    for (size_t i = 0; i < rows && result == FELOSUMAY_DONE; i++) {
         result = try_row(&ROWS[i]);
         expect("new", &ROWS[i], result, FELOSUMAY_DONE);
+    }
+    for (size_t i = 0; i < rows * rows && result == FELOSUMAY_DONE; i++) {
+        result = update(&ROWS[i / rows], &ROWS[i % rows]);
+        expect("new", &ROWS[i % rows], result, FELOSUMAY_DONE);
     }
     return failed;
 }

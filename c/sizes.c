@@ -4,4 +4,4 @@
 #include "felosumay_names.h"
 
 /* The greatest image of saved values: c/saved.c saves it. */
-FELOSUMAY_ASSERT(FELOSUMAY_MOST_SAVED_BYTES == 34377);
+FELOSUMAY_ASSERT(FELOSUMAY_MOST_SAVED_BYTES == 35659);

@@ -9,7 +9,7 @@ use Rattle.rdm_params.specs.Commands.Panel.{change_message}
 use Rattle.rdm_responder.specs.History.{History, Event, Arrived, then_event}
 use Rattle.rdm_responder.specs.Lawful.{IsLawful}
 use Rattle.rdm_responder.specs.declared.report.Report.{Report}
-use Rattle.rdm_responder.specs.Laws.{values_of}
+use Rattle.rdm_responder.specs.Laws.{maker_of, values_of}
 use Rattle.rdm_outbox.specs.Jobs.{has_place}
 use Rattle.rdm_responder.specs.Runs.{outbox_of}
 use Rattle.rdm_responder.specs.Rules.{account_of, answered}
@@ -105,7 +105,7 @@ KeptTold code count value (Some bytes) = (code ≡ code_of status.Done) × (coun
 -- else all that was there.
 abbrev pub LeavesBytes : Option Endpoint → ℕ → ℕ → List ℕ → List ℕ → Type 0
 LeavesBytes held code count before after =
-    ((h : History) → HeldFor held h → code ≡ code_of status.Done → after ≡ saved_text (values_of h) ++ drop count before)
+    ((h : History) → HeldFor held h → code ≡ code_of status.Done → after ≡ saved_text (maker_of h) (values_of h) ++ drop count before)
     × (code ≢ code_of status.Done → after ≡ before)
 
 abbrev pub in_range_told : Option Message → Status

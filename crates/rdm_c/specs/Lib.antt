@@ -12,6 +12,7 @@ pub mod Endpoints
 pub mod Events
 pub mod Memory
 pub mod Images
+pub mod Left
 pub mod Messages
 pub mod Queues
 pub mod SearchStates

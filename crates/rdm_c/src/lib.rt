@@ -18,6 +18,7 @@ mod handle;
 mod image;
 mod job;
 mod keeping;
+mod left;
 mod lent;
 mod memory;
 mod message;
@@ -67,6 +68,7 @@ pub use exports::responder::{
 };
 pub use exports::saving::{
     felosumay_responder_restore_nonnull, felosumay_responder_save, felosumay_responder_saved_size,
+    felosumay_saved_left_nonnull,
 };
 pub use exports::search::{
     felosumay_search_count, felosumay_search_found, felosumay_search_free,
@@ -77,6 +79,7 @@ pub use found::FoundNumbers;
 pub use handle::Handle;
 pub use image::ImageNumbers;
 pub use job::{JobNumbers, SteppedNumbers};
+pub use left::LeftNumbers;
 pub use message::{CommandNumbers, HeardNumbers, MessageNumbers};
 pub use names::NameNumbers;
 pub use outcome::OutcomeNumbers;

@@ -4,6 +4,7 @@ use crate::found::FoundNumbers;
 use crate::handle::Handle;
 use crate::image::ImageNumbers;
 use crate::job::{JobNumbers, SteppedNumbers};
+use crate::left::LeftNumbers;
 use crate::message::{CommandNumbers, HeardNumbers, MessageNumbers};
 use crate::names::NameNumbers;
 use crate::outcome::OutcomeNumbers;
@@ -69,5 +70,7 @@ const _: () = prove!(size_of::<ReplyNumbers>() == 256);
 const _: () = prove!(size_of::<Receiver>() == 260);
 
 const _: () = prove!(size_of::<ImageNumbers>() == 6);
+
+const _: () = prove!(size_of::<LeftNumbers>() == 16);
 
 const _: () = prove!(size_of::<Deadlines>() == 32);

@@ -48,11 +48,11 @@ pub enum Status {
     BadLength,
     /// There is no room for the image.
     ShortImage,
-    /// The image has another length than one of these values.
+    /// The image has another length than it says.
     ImageLength,
     /// The image is altered.
     AlteredImage,
-    /// The image is of another profile.
+    /// The image is of another manufacturer or model.
     ForeignImage,
     /// The bytes aren't a response.
     NoReply,

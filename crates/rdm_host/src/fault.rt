@@ -84,7 +84,7 @@ pub enum Fault<'a> {
     NoDevice,
     /// A file has no saved values.
     NotSaved(&'a str),
-    /// A file has the saved values of a fixture of another profile.
+    /// A file has the saved values of a fixture of another manufacturer or model.
     OtherProfile(&'a str),
     /// A console couldn't do its work on a line.
     Line(LineFault<'a>),

@@ -2,7 +2,7 @@
 
 use crate::memory::MemoryFault;
 
-/// How many bytes each of the two areas of a disk has. The greatest image of a responder's values, of 34,377 bytes, fits with its head.
+/// How many bytes each of the two areas of a disk has. The greatest image of a responder's values, of 35,659 bytes, fits with its head.
 pub const AREA_BYTES: usize = 36864;
 
 /// How many bytes a disk has: those of two areas.

@@ -8,7 +8,8 @@ use Rattle.rdm_params.specs.Commands.Saving.{powered_on}
 use Rattle.rdm_params.specs.Jobs.Laws.{SameDevices}
 use Rattle.rdm_params.proofs.StaysAccepted.{set_keeps_devices, commit_keeps_devices, panel_keeps_devices, place_keeps_devices}
 use Rattle.rdm_profile.specs.declared.profile.Profile.{Profile}
-use Rattle.rdm_saved.specs.Restoring.{restored, restored_devices, device_size}
+use Rattle.rdm_saved.specs.Restoring.{restored}
+use Rattle.rdm_saved.proofs.Stays.{restored_profile, restored_subs}
 use Rattle.rdm_responder.specs.History.{Event, Heard, Arrived, Changed, Placed, Noted, Restored, Dropped, History}
 use Rattle.rdm_responder.specs.Requests.{Request, Ignored, Branch, Muting, Get, Set, request_in}
 use Rattle.rdm_responder.specs.Rules.{Account, account_after, account_before, account_of, account_with}
@@ -20,13 +21,9 @@ same_as_itself p = record { profile = refl; subs = refl }
 then_same : (p q r : Parameters) → SameDevices p q → SameDevices q r → SameDevices p r
 then_same p q r first second = record { profile = second.profile ∙ first.profile; subs = second.subs ∙ first.subs }
 
-as_many : (ds : List (List Entry)) (bytes : List ℕ) → length (restored_devices ds bytes) ≡ length ds
-as_many [] bytes = refl
-as_many (d ∷ ds) bytes = ap (λ (n : ℕ). suc n) (as_many ds (drop (device_size d) bytes))
-
 restore_keeps : (p : Parameters) (image : List ℕ) → SameDevices p (powered_on (restored p image))
-unfolding powered_on restored
-restore_keeps p image = record { profile = refl; subs = as_many p.subs _ }
+unfolding powered_on
+restore_keeps p image = record { profile = restored_profile p image; subs = restored_subs p image }
 
 -- An account stays that of its setup, with devices of the same make.
 record Stays (a b : Account) : Type 0 where

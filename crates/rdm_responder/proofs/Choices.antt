@@ -15,6 +15,7 @@ use Rattle.rdm_params.specs.Jobs.Laws.{SameDevices}
 use Rattle.rdm_params.specs.Jobs.Work.{Choice}
 use Rattle.rdm_params.proofs.StaysAccepted.{set_keeps_devices, commit_keeps_devices, panel_keeps_devices, place_keeps_devices}
 use Rattle.rdm_saved.specs.Restoring.{restored}
+use Rattle.rdm_saved.proofs.Stays.{restored_profile}
 
 same_choice : (ws : Choice) (p q new : Parameters) → ws ≡ p.profile.workers → SameDevices p q → new ≡ q → ws ≡ new.profile.workers
 same_choice ws p q new before same after =
@@ -37,8 +38,8 @@ pub chosen_after_place : (ws : Choice) (p new : Parameters) (sub pid : ℕ) (byt
 chosen_after_place ws p new sub pid bytes before after = same_choice ws p (after_place p sub pid bytes) new before (place_keeps_devices p sub pid bytes) after
 
 profile_restored : (p : Parameters) (image : List ℕ) → (powered_on (restored p image)).profile ≡ p.profile
-unfolding powered_on restored
-profile_restored p image = refl
+unfolding powered_on
+profile_restored p image = restored_profile p image
 
 pub chosen_after_restore : {E : Type 0} (r : Result (Unit {0}) E) (ws : Choice) (p new : Parameters) (image : List ℕ) → ws ≡ p.profile.workers → OnOk r (new ≡ powered_on (restored p image)) → OnErr r (new ≡ p) → ws ≡ new.profile.workers
 chosen_after_restore (Ok u) ws p new image before after same =

@@ -1,9 +1,9 @@
 -- Who asked, as the bytes of a request tell.
-use Rattle.std.proofs.Common.{◌≡◌, ◌≤◌, ◌+◌, ℕ, Bool, true, false, cond, List, length, Option, Some, None, sym, ap, ◌∙◌, arith}
+use Rattle.std.proofs.Common.{◌≡◌, ◌+◌, ℕ, Bool, true, false, cond, List, length, Option, Some, None, sym, ap, ◌∙◌, arith}
 use Rattle.std.specs.Prelude.{slice_index}
 use Rattle.std.specs.Str.{bytes_eq}
 use Rattle.rdm_frame.specs.declared.frame.Frame.{Frame}
-use Rattle.rdm_frame.specs.FrameText.{frame_text, IsFrame, HasSlots}
+use Rattle.rdm_frame.specs.FrameText.{frame_text, IsFrame}
 use Rattle.rdm_frame.specs.Reading.{frame_of, frame_in, uid_at}
 use Rattle.rdm_frame.proofs.Texts.{has_slots}
 use Rattle.rdm_responder.specs.Requests.{IsFrom}

@@ -22,9 +22,9 @@ MayChange a = has_place a.outbox ≡ true
 abbrev pub MayPlace : Account → ℕ → ℕ → List ℕ → Type 0
 MayPlace a sub pid bytes = place_refusal a.parameters sub pid bytes ≡ None
 
--- The firmware may restore an image that isn't refused.
+-- The firmware may restore an image that isn't refused at a fixture of this manufacturer.
 abbrev pub MayRestore : Account → List ℕ → Type 0
-MayRestore a image = restore_refusal a.parameters image ≡ None
+MayRestore a image = restore_refusal a.setup.uid.maker a.parameters image ≡ None
 
 -- any bytes may be heard, any entry may be told, and at any time a message may be dropped, if one waits
 abbrev pub MayHappen : Account → Event → Type 0

@@ -1,5 +1,5 @@
 -- Laws of histories.
-use Rattle.std.specs.Prelude.{◌≡◌, ◌≤◌, length}
+use Rattle.std.specs.Prelude.{◌≡◌, ◌≤◌, ℕ, length}
 use Rattle.rdm_params.specs.Commands.Saving.{powered_on}
 use Rattle.rdm_params.specs.Device.Parameters.{Parameters}
 use Rattle.rdm_saved.specs.Laws.{IsWhole, AreTexts, AreWhole, AreOfOneMake, taken}
@@ -42,11 +42,15 @@ LawfulHistoriesHaveRoom =
 abbrev pub values_of : History → Parameters
 values_of h = (account_of h).parameters
 
--- What one responder saves, another of the same make may restore. Then its values that last are the saved ones, with one more
+-- the manufacturer ID of the fixture. Section 6.2.4.
+abbrev pub maker_of : History → ℕ
+maker_of h = (account_of h).setup.uid.maker
+
+-- What one responder saves, another of the same manufacturer and make may restore. Then its values that last are the saved ones, with one more
 -- power cycle, and the others stay.
 abbrev pub SavedValuesAreRestored : Type 0
 SavedValuesAreRestored =
     (saves restores : History) → IsWhole (values_of saves).root → AreTexts (values_of saves).added → AreWhole (values_of saves).subs
-    → AreOfOneMake (values_of restores) (values_of saves)
-    → MayRestore (account_of restores) (saved_text (values_of saves))
-    × (values_of (then_event restores (Restored (saved_text (values_of saves)))) ≡ powered_on (taken (values_of restores) (values_of saves)))
+    → AreOfOneMake (values_of restores) (values_of saves) → maker_of restores ≡ maker_of saves
+    → MayRestore (account_of restores) (saved_text (maker_of saves) (values_of saves))
+    × (values_of (then_event restores (Restored (saved_text (maker_of saves) (values_of saves)))) ≡ powered_on (taken (values_of restores) (values_of saves)))

@@ -1,5 +1,5 @@
 -- When a responder's state is what a history comes to.
-use Rattle.std.specs.Prelude.{◌≡◌, ℕ, ◌≤◌, Bool}
+use Rattle.std.specs.Prelude.{◌≡◌, Bool}
 use Rattle.rdm_frame.specs.declared.uid.Uid.{Uid}
 use Rattle.rdm_params.specs.Device.Parameters.{Parameters}
 use Rattle.rdm_outbox.specs.Shows as outbox

@@ -1,9 +1,9 @@
 -- What is restored from the parts of an image.
-use Rattle.std.proofs.Common.{◌≡◌, ◌==◌, false, Some, ℕ, suc, ◌+◌, ◌*◌, ◌<◌, List, [], ◌∷◌, ◌++◌, length, take, drop, get_or, map, set, refl, sym, ap, ◌∙◌, arith}
+use Rattle.std.proofs.Common.{◌≡◌, ℕ, suc, ◌+◌, ◌*◌, ◌<◌, List, [], ◌∷◌, ◌++◌, length, take, drop, get_or, map, set, refl, sym, ap, ◌∙◌, arith}
 use Rattle.std.proofs.lemmas.List.{drop-take, take-append-drop, take_more, take_more_set, drop-set-lt, map-append, get_or-drop, length-take, length-map}
 use Rattle.std.proofs.Math.Seq.{drop-append_seam, take-append_seam}
 use Rattle.rdm_saved.proofs.Lists.{drop_drop, take_take, items_from, items_from-take, items_all}
-use Rattle.rdm_saved.proofs.Sizes.{len_is, size_append, common_size, own_size, subs_size, sensors_size}
+use Rattle.rdm_saved.proofs.Sizes.{size_append, common_size, own_size, subs_size, sensors_size}
 use Rattle.rdm_profile.specs.declared.profile.Profile.{Profile}
 use Rattle.rdm_added.specs.Parameters.{Parameters}
 use Rattle.rdm_saved.specs.SavedText.{kept}
@@ -13,8 +13,7 @@ use Rattle.rdm_added.specs.declared.state.Kept.{Kept}
 use Rattle.rdm_added.specs.declared.state.Measured.{Measured}
 use Rattle.rdm_added.specs.Map.{Entry, entry}
 use Rattle.rdm_added.specs.Views.State.{common_entries, own_entries, sensor_entries, measured_slots, kept_entry, added_entries}
-use Rattle.rdm_saved.specs.Restoring.{size, device_size, devices_size, restored_value, restored_device, restored_kept, restored_added, restored_devices, restored, added_size, profile_size, saved_len, restore_refusal}
-use Rattle.rdm_saved.specs.declared.errors.RestoreError.TheVariants.{Length}
+use Rattle.rdm_saved.specs.SameProfile.{size, device_size, devices_size, restored_value, restored_device, restored_kept, restored_added, restored_devices, restored_whole, added_size, profile_size}
 
 -- the numbers behind a label
 drop_label : (label rest : List ℕ) → length label ≡ 32 → drop 32 (label ++ rest) ≡ rest
@@ -85,7 +84,7 @@ devices_append (x ∷ xs) ys t =
     ap (λ (ds : List (List Entry)). restored_device x t ∷ ds) (devices_append xs ys (drop (device_size x) t) ∙ ap (λ (bytes : List ℕ). restored_devices xs (drop (device_size x) t) ++ restored_devices ys bytes) (drop_drop (device_size x) (devices_size xs) t))
 
 -- an element before which another list is as this one
-same_at : {A : Type 0} (i : ℕ) (now olds : List A) (d : A) → drop i now ≡ drop i olds → get_or now i d ≡ get_or olds i d
+pub same_at : {A : Type 0} (i : ℕ) (now olds : List A) (d : A) → drop i now ≡ drop i olds → get_or now i d ≡ get_or olds i d
 same_at i now olds d e =
     let here : i + 0 ≡ i = omega arith in
     ap (λ (k : ℕ). get_or now k d) (sym here) ∙ sym (get_or-drop i now 0 d) ∙ ap (λ xs. get_or xs 0 d) e ∙ get_or-drop i olds 0 d ∙ ap (λ (k : ℕ). get_or olds k d) here
@@ -112,31 +111,31 @@ each_restored i now olds new d t lt len so_far others e =
 kept_same : (e : Entry) {a b : List ℕ} {xs ys : List Entry} → a ≡ b → xs ≡ ys → restored_kept e a ∷ xs ≡ restored_kept e b ∷ ys
 kept_same e p q = rw (p, q) refl
 
-added_append : (xs ys : List Entry) (t : List ℕ) → restored_added (xs ++ ys) t ≡ restored_added xs t ++ restored_added ys (drop (33 * length xs) t)
+added_append : (xs ys : List Entry) (t : List ℕ) → restored_added (xs ++ ys) t ≡ restored_added xs t ++ restored_added ys (drop (37 * length xs) t)
 added_append [] ys t = refl
 added_append (x ∷ xs) ys t =
-    let place : 33 + 33 * length xs ≡ 33 * length (x ∷ xs) = omega arith in
-    kept_same x {a = take 33 t} {b = take 33 t} refl (added_append xs ys (drop 33 t) ∙ ap (λ (bytes : List ℕ). restored_added xs (drop 33 t) ++ restored_added ys bytes) (drop_drop 33 (33 * length xs) t ∙ ap (λ (n : ℕ). drop n t) place))
+    let place : 37 + 37 * length xs ≡ 37 * length (x ∷ xs) = omega arith in
+    kept_same x {a = take 37 t} {b = take 37 t} refl (added_append xs ys (drop 37 t) ∙ ap (λ (bytes : List ℕ). restored_added xs (drop 37 t) ++ restored_added ys bytes) (drop_drop 37 (37 * length xs) t ∙ ap (λ (n : ℕ). drop n t) place))
 
 -- the bytes behind theirs don't count
-added_front : (es : List Entry) (k : ℕ) (t : List ℕ) → restored_added es (take (33 * length es + k) t) ≡ restored_added es t
+added_front : (es : List Entry) (k : ℕ) (t : List ℕ) → restored_added es (take (37 * length es + k) t) ≡ restored_added es t
 added_front [] k t = refl
 added_front (e ∷ es) k t =
-    let sum : 33 * length (e ∷ es) + k ≡ 33 + (33 * length es + k) = omega arith in
+    let sum : 37 * length (e ∷ es) + k ≡ 37 + (37 * length es + k) = omega arith in
     ap (λ (n : ℕ). restored_added (e ∷ es) (take n t)) sum
-    ∙ kept_same e (take_take 33 (33 * length es + k) t) (ap (restored_added es) (drop-take 33 (33 * length es + k) t) ∙ added_front es k (drop 33 t))
+    ∙ kept_same e (take_take 37 (37 * length es + k) t) (ap (restored_added es) (drop-take 37 (37 * length es + k) t) ∙ added_front es k (drop 37 t))
 
 -- one more
-pub added_restored : (i : ℕ) (now olds : List Kept) (new d : Kept) (t : List ℕ) → i < length now → length now ≡ length olds → added_entries (take i now) ≡ restored_added (added_entries (take i olds)) t → drop i now ≡ drop i olds → kept_entry new ≡ restored_kept (kept_entry (get_or now i d)) (take 33 (drop (33 * i) t)) → added_entries (take (i + 1) (set now i new)) ≡ restored_added (added_entries (take (i + 1) olds)) t
+pub added_restored : (i : ℕ) (now olds : List Kept) (new d : Kept) (t : List ℕ) → i < length now → length now ≡ length olds → added_entries (take i now) ≡ restored_added (added_entries (take i olds)) t → drop i now ≡ drop i olds → kept_entry new ≡ restored_kept (kept_entry (get_or now i d)) (take 37 (drop (37 * i) t)) → added_entries (take (i + 1) (set now i new)) ≡ restored_added (added_entries (take (i + 1) olds)) t
 added_restored i now olds new d t lt len so_far others e =
     let old : Kept = get_or olds i d in
     let within : i < length olds = omega (arith, len, lt) in
-    let before : 33 * length (added_entries (take i olds)) ≡ 33 * i = omega (arith, length-map (take i olds) kept_entry, length-take i olds, within) in
-    let made : kept_entry new ≡ restored_kept (kept_entry old) (take 33 (drop (33 * i) t)) = e ∙ ap (λ (k : Kept). restored_kept (kept_entry k) (take 33 (drop (33 * i) t))) (same_at i now olds d others) in
+    let before : 37 * length (added_entries (take i olds)) ≡ 37 * i = omega (arith, length-map (take i olds) kept_entry, length-take i olds, within) in
+    let made : kept_entry new ≡ restored_kept (kept_entry old) (take 37 (drop (37 * i) t)) = e ∙ ap (λ (k : Kept). restored_kept (kept_entry k) (take 37 (drop (37 * i) t))) (same_at i now olds d others) in
     let left : added_entries (take (i + 1) (set now i new)) ≡ added_entries (take i now) ++ kept_entry new ∷ [] = ap (map kept_entry) (take_more_set now i new lt) ∙ map-append kept_entry (take i now) (new ∷ []) in
     let right : added_entries (take (i + 1) olds) ≡ added_entries (take i olds) ++ kept_entry old ∷ [] = ap (map kept_entry) (take_more olds i d within) ∙ map-append kept_entry (take i olds) (old ∷ []) in
     left ∙ ap (λ (es : List Entry). es ++ kept_entry new ∷ []) so_far ∙ ap (λ (x : Entry). restored_added (added_entries (take i olds)) t ++ x ∷ []) made
-    ∙ ap (λ (n : ℕ). restored_added (added_entries (take i olds)) t ++ restored_kept (kept_entry old) (take 33 (drop n t)) ∷ []) (sym before)
+    ∙ ap (λ (n : ℕ). restored_added (added_entries (take i olds)) t ++ restored_kept (kept_entry old) (take 37 (drop n t)) ∷ []) (sym before)
     ∙ sym (added_append (added_entries (take i olds)) (kept_entry old ∷ []) t) ∙ ap (λ (es : List Entry). restored_added es t) (sym right)
 
 -- ---- sensors
@@ -185,19 +184,19 @@ devices_front (d ∷ ds) k t =
     ∙ ap (λ (es : List Entry). es ∷ restored_devices ds (drop (device_size d) (take (device_size d + (devices_size ds + k)) t))) (restored_front d (devices_size ds + k) t)
     ∙ ap (λ (es : List (List Entry)). restored_device d t ∷ es) (ap (restored_devices ds) (drop-take (device_size d) (devices_size ds + k) t) ∙ devices_front ds k (drop (device_size d) t))
 
-pub added_parts : (ks : List Kept) (now : List Entry) (n : ℕ) (t rest behind added : List ℕ) → rest ≡ drop 46 t → behind ≡ drop (15 + 2 * n) rest → added ≡ take (33 * length ks) behind → now ≡ restored_added (added_entries ks) added → now ≡ restored_added (added_entries ks) (drop (61 + 2 * n) t)
+pub added_parts : (ks : List Kept) (now : List Entry) (n : ℕ) (t rest behind added : List ℕ) → rest ≡ drop 46 t → behind ≡ drop (15 + 2 * n) rest → added ≡ take (37 * length ks) behind → now ≡ restored_added (added_entries ks) added → now ≡ restored_added (added_entries ks) (drop (61 + 2 * n) t)
 added_parts ks now n t rest behind added er eb ea made =
-    let sizes : 33 * length ks ≡ 33 * length (added_entries ks) + 0 = omega (arith, length-map ks kept_entry) in
+    let sizes : 37 * length ks ≡ 37 * length (added_entries ks) + 0 = omega (arith, length-map ks kept_entry) in
     let place : 46 + (15 + 2 * n) ≡ 61 + 2 * n = omega arith in
     let behind_is : behind ≡ drop (61 + 2 * n) t = eb ∙ ap (drop (15 + 2 * n)) er ∙ drop_drop 46 (15 + 2 * n) t ∙ ap (λ (k : ℕ). drop k t) place in
     made ∙ ap (restored_added (added_entries ks)) (ea ∙ ap (λ (k : ℕ). take k behind) sizes) ∙ added_front (added_entries ks) 0 behind ∙ ap (restored_added (added_entries ks)) behind_is
 
-pub subs_parts : (ds ds' : List CommonValues) (n a : ℕ) (t rest behind after each : List ℕ) → rest ≡ drop 46 t → behind ≡ drop (15 + 2 * n) rest → after ≡ drop (33 * a) behind → each ≡ take (46 * length ds) after → map common_entries ds' ≡ restored_devices (map common_entries ds) each → map common_entries ds' ≡ restored_devices (map common_entries ds) (drop (61 + 2 * n + 33 * a) t)
+pub subs_parts : (ds ds' : List CommonValues) (n a : ℕ) (t rest behind after each : List ℕ) → rest ≡ drop 46 t → behind ≡ drop (15 + 2 * n) rest → after ≡ drop (37 * a) behind → each ≡ take (46 * length ds) after → map common_entries ds' ≡ restored_devices (map common_entries ds) each → map common_entries ds' ≡ restored_devices (map common_entries ds) (drop (61 + 2 * n + 37 * a) t)
 subs_parts ds ds' n a t rest behind after each er eb ea ee made =
     let sizes : 46 * length ds ≡ devices_size (map common_entries ds) + 0 = omega (arith, subs_size ds) in
     let place : 46 + (15 + 2 * n) ≡ 61 + 2 * n = omega arith in
     let behind_is : behind ≡ drop (61 + 2 * n) t = eb ∙ ap (drop (15 + 2 * n)) er ∙ drop_drop 46 (15 + 2 * n) t ∙ ap (λ (k : ℕ). drop k t) place in
-    let after_is : after ≡ drop (61 + 2 * n + 33 * a) t = ea ∙ ap (drop (33 * a)) behind_is ∙ drop_drop (61 + 2 * n) (33 * a) t in
+    let after_is : after ≡ drop (61 + 2 * n + 37 * a) t = ea ∙ ap (drop (37 * a)) behind_is ∙ drop_drop (61 + 2 * n) (37 * a) t in
     made ∙ ap (restored_devices (map common_entries ds)) (ee ∙ ap (λ (k : ℕ). take k after) sizes) ∙ devices_front (map common_entries ds) 0 after ∙ ap (restored_devices (map common_entries ds)) after_is
 
 abbrev with_devices : Profile → List Entry → List Entry → List (List Entry) → Parameters
@@ -207,22 +206,14 @@ devices_same : (p : Profile) {a b c d : List Entry} {xs ys : List (List Entry)} 
 devices_same p e f g = rw (e, f, g) refl
 
 -- what is restored from an image
-pub restored_is : (p : Profile) (d d' : CommonValues) (o o' : RootValues) (ds ds' : List CommonValues) (image bytes : List ℕ) → bytes ≡ drop (profile_size p) image → common_entries d' ++ own_entries o' ≡ restored_device (common_entries d ++ own_entries o) bytes → added_entries o'.added.items ≡ restored_added (added_entries o.added.items) (drop (61 + 2 * length o.sensors.items) bytes) → map common_entries ds' ≡ restored_devices (map common_entries ds) (drop (61 + 2 * length o.sensors.items + 33 * length o.added.items) bytes) → kept p d' o' ds' ≡ restored (kept p d o ds) image
-unfolding restored
+pub restored_is : (p : Profile) (d d' : CommonValues) (o o' : RootValues) (ds ds' : List CommonValues) (image bytes : List ℕ) → bytes ≡ drop (profile_size p) image → common_entries d' ++ own_entries o' ≡ restored_device (common_entries d ++ own_entries o) bytes → added_entries o'.added.items ≡ restored_added (added_entries o.added.items) (drop (61 + 2 * length o.sensors.items) bytes) → map common_entries ds' ≡ restored_devices (map common_entries ds) (drop (61 + 2 * length o.sensors.items + 37 * length o.added.items) bytes) → kept p d' o' ds' ≡ restored_whole (kept p d o ds) image
 restored_is p d d' o o' ds ds' image bytes e root added subs =
     let m : ℕ = profile_size p in
     let n : ℕ = 61 + 2 * length o.sensors.items in
-    let k : ℕ = n + 33 * length o.added.items in
+    let k : ℕ = n + 37 * length o.added.items in
     let root_size : n ≡ device_size (common_entries d ++ own_entries o) = omega (arith, size_append (common_entries d) (own_entries o), common_size d, own_size o) in
     let here : m + n ≡ m + device_size (common_entries d ++ own_entries o) = ap (λ (x : ℕ). m + x) root_size in
     let behind : m + k ≡ m + device_size (common_entries d ++ own_entries o) + added_size (added_entries o.added.items) = omega (arith, root_size, length-map o.added.items kept_entry) in
     devices_same p (root ∙ ap (restored_device (common_entries d ++ own_entries o)) e)
     (added ∙ ap (restored_added (added_entries o.added.items)) (ap (drop n) e ∙ drop_drop m n image ∙ ap (λ (x : ℕ). drop x image) here))
     (subs ∙ ap (restored_devices (map common_entries ds)) (ap (drop k) e ∙ drop_drop m k image ∙ ap (λ (x : ℕ). drop x image) behind))
-
--- an image of another length
-pub other_length : (p : Profile) (d : CommonValues) (o : RootValues) (ds : List CommonValues) (image : List ℕ) → (length image == 82 + 4 * length p.particulars.own + 2 * length p.particulars.without.items + 2 * length o.sensors.items + 33 * length o.added.items + 46 * length ds) ≡ false → Some Length ≡ restore_refusal (kept p d o ds) image
-unfolding restore_refusal
-other_length p d o ds image e =
-    let test : (length image == saved_len (kept p d o ds)) ≡ false = ap (λ (n : ℕ). length image == n) (len_is p d o ds) ∙ e in
-    rw test refl

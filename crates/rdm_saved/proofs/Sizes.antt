@@ -7,7 +7,7 @@ use Rattle.rdm_added.specs.declared.state.RootValues.{RootValues}
 use Rattle.rdm_added.specs.declared.state.Measured.{Measured}
 use Rattle.rdm_added.specs.Map.{Entry}
 use Rattle.rdm_added.specs.Views.State.{common_entries, own_entries, sensor_entries, kept_entry, added_entries}
-use Rattle.rdm_saved.specs.Restoring.{device_size, devices_size}
+use Rattle.rdm_saved.specs.SameProfile.{device_size, devices_size}
 
 pub size_append : (xs ys : List Entry) → device_size (xs ++ ys) ≡ device_size xs + device_size ys
 size_append [] ys = omega arith
@@ -30,5 +30,5 @@ subs_size [] = refl
 subs_size (d ∷ ds) = omega (arith, common_size d, subs_size ds)
 
 -- how many bytes the image has
-pub len_is : (p : Profile) (d : CommonValues) (o : RootValues) (ds : List CommonValues) → 17 + 4 * length p.particulars.own + 2 * length p.particulars.without.items + device_size (common_entries d ++ own_entries o) + 33 * length (added_entries o.added.items) + devices_size (map common_entries ds) + 4 ≡ 82 + 4 * length p.particulars.own + 2 * length p.particulars.without.items + 2 * length o.sensors.items + 33 * length o.added.items + 46 * length ds
+pub len_is : (p : Profile) (d : CommonValues) (o : RootValues) (ds : List CommonValues) → 23 + 4 * length p.particulars.own + 2 * length p.particulars.without.items + device_size (common_entries d ++ own_entries o) + 37 * length (added_entries o.added.items) + devices_size (map common_entries ds) + 4 ≡ 88 + 4 * length p.particulars.own + 2 * length p.particulars.without.items + 2 * length o.sensors.items + 37 * length o.added.items + 46 * length ds
 len_is p d o ds = omega (arith, size_append (common_entries d) (own_entries o), common_size d, own_size o, length-map o.added.items kept_entry, subs_size ds)

@@ -7,11 +7,15 @@ use Rattle.rdm_added.specs.declared.state.Kept.{Kept}
 use Rattle.rdm_added.specs.declared.state.Measured.{Measured}
 use Rattle.rdm_added.specs.Map.{Entry}
 use Rattle.rdm_added.specs.Views.State.{common_entries, own_entries, sensor_entries, kept_entry, added_entries}
-use Rattle.rdm_saved.specs.SavedText.{label_text}
+use Rattle.rdm_profile.specs.Values.{word_slots}
+use Rattle.rdm_saved.specs.SavedText.{label_text, kept_text}
 use Rattle.rdm_saved.specs.Laws.{IsWhole, AreTexts, AreWhole}
 
 pub label_size : (label : List ℕ) → length label ≤ 32 → length (label_text label) ≡ 33
 label_size label short = omega (arith, short, length-append label (replicate (32 - length label) 0), length-replicate {A = ℕ} (32 - length label) 0)
+
+pub kept_size : (e : Entry) → length e.bytes ≤ 32 → length (kept_text e) ≡ 37
+kept_size e short = omega (arith, label_size e.bytes short, length-append (word_slots e.pid ++ word_slots e.index) (label_text e.bytes), length-append (word_slots e.pid) (word_slots e.index))
 
 pub common_whole : (d : CommonValues) → length d.label ≤ 32 → IsWhole (common_entries d)
 unfolding common_entries

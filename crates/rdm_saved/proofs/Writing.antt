@@ -1,5 +1,5 @@
 -- What is saved of sub-devices, and of parameters that the maker adds, one behind the other.
-use Rattle.std.proofs.Common.{◌≡◌, ℕ, ◌+◌, ◌-◌, ◌*◌, ◌≤◌, ◌<◌, List, [], ◌∷◌, ◌++◌, length, length-append, take, drop, get_or, refl, sym, ap, ◌∙◌, arith}
+use Rattle.std.proofs.Common.{◌≡◌, ℕ, ◌+◌, ◌≤◌, ◌<◌, List, [], ◌∷◌, ◌++◌, length, length-append, take, drop, get_or, refl, sym, ap, ◌∙◌, arith}
 use Rattle.std.specs.Prelude.{flat_map}
 use borrow.Rule.Slice.PartMut.{put_mid}
 use Rattle.std.proofs.lemmas.Slice.{take-put_mid, drop-put_mid}
@@ -9,7 +9,7 @@ use Rattle.rdm_added.specs.declared.state.CommonValues.{CommonValues}
 use Rattle.rdm_added.specs.Map.{Entry}
 use Rattle.rdm_added.specs.Views.State.{common_entries}
 use Rattle.rdm_saved.specs.SavedText.{lasting, device_text}
-use Rattle.rdm_saved.specs.Restoring.{device_size}
+use Rattle.rdm_saved.specs.SameProfile.{device_size}
 use Rattle.rdm_saved.specs.Laws.{IsWhole}
 use Rattle.rdm_saved.proofs.Lists.{drop_drop}
 use Rattle.rdm_saved.proofs.Sizes.{common_size}

@@ -1,5 +1,5 @@
 -- What holds of every image.
-use Rattle.std.specs.Prelude.{◌≡◌, ◌≢◌, ℕ, ◌<◌, ◌≤◌, ◌==◌, List, [], ◌∷◌, ◌++◌, length, take, drop, slice_index, slice_set, Some, None, if◌then◌else◌}
+use Rattle.std.specs.Prelude.{◌≡◌, ◌≢◌, ℕ, ◌<◌, ◌≤◌, ◌==◌, List, [], ◌∷◌, ◌++◌, length, take, drop, slice_index, slice_set, ◌⊎◌, Some, None, if◌then◌else◌}
 use Rattle.rdm_saved.specs.declared.errors.RestoreError.TheVariants.{Length, Altered}
 use Rattle.rdm_profile.specs.declared.profile.Profile.{Profile}
 use Rattle.rdm_added.specs.declared.state.CommonValues.{CommonValues}
@@ -8,7 +8,8 @@ use Rattle.rdm_added.specs.Map.{Entry, entry}
 use Rattle.rdm_added.specs.Parameters.{Parameters}
 use Rattle.rdm_added.specs.Views.State.{added_entries}
 use Rattle.rdm_saved.specs.SavedText.{is_of_the_moment, kept, lasting, saved_text}
-use Rattle.rdm_saved.specs.Restoring.{size, restored, restore_refusal}
+use Rattle.rdm_saved.specs.SameProfile.{size, profile_size}
+use Rattle.rdm_saved.specs.Restoring.{restored, restore_refusal}
 
 -- What is saved of each value of a device has the size of its PID: a label has at most 32 bytes, a number those of its type.
 abbrev pub IsWhole : List Entry → Type 0
@@ -86,18 +87,20 @@ SameDevicesAreOfOneMake =
 -- What is saved is restored: on any values of the same devices.
 abbrev pub SavedIsRestored : Type 0
 SavedIsRestored =
-    (now saved : Parameters) → IsWhole saved.root → AreTexts saved.added → AreWhole saved.subs → AreOfOneMake now saved
-    → (restore_refusal now (saved_text saved) ≡ None) × (restored now (saved_text saved) ≡ taken now saved)
+    (maker : ℕ) (now saved : Parameters) → IsWhole saved.root → AreTexts saved.added → AreWhole saved.subs → AreOfOneMake now saved
+    → (restore_refusal maker now (saved_text maker saved) ≡ None) × (restored now (saved_text maker saved) ≡ taken now saved)
 
 -- An image that is cut anywhere is refused.
 abbrev pub CutIsRefused : Type 0
 CutIsRefused =
-    (p : Parameters) (image : List ℕ) (n : ℕ) → restore_refusal p image ≡ None → n < length image
-    → restore_refusal p (take n image) ≡ Some Length
+    (maker : ℕ) (p : Parameters) (image : List ℕ) (n : ℕ) → restore_refusal maker p image ≡ None → n < length image
+    → restore_refusal maker p (take n image) ≡ Some Length
 
--- An image in which one byte is another is refused.
+-- An image in which one byte is another is refused: as altered, or by its length where the byte is one of those that say the profile, and so
+-- how long the image is.
 abbrev pub AlteredIsRefused : Type 0
 AlteredIsRefused =
-    (p : Parameters) (image : List ℕ) (i byte : ℕ) → restore_refusal p image ≡ None → i < length image
+    (maker : ℕ) (p : Parameters) (image : List ℕ) (i byte : ℕ) → restore_refusal maker p image ≡ None → i < length image
     → slice_index image i < 256 → byte < 256 → byte ≢ slice_index image i
-    → restore_refusal p (slice_set image i byte) ≡ Some Altered
+    → (restore_refusal maker p (slice_set image i byte) ≡ Some Altered)
+    ⊎ ((i < profile_size p.profile) × (restore_refusal maker p (slice_set image i byte) ≡ Some Length))

@@ -1,83 +1,42 @@
 -- What values are restored from an image, and which images are refused.
-use Rattle.std.specs.Prelude.{ℕ, ◌+◌, ◌-◌, ◌*◌, ◌==◌, Bool, List, [], ◌∷◌, ◌++◌, length, take, drop, slice_index, bytes_eq, not, Option, Some, None, if◌then◌else◌}
-use Rattle.std.specs.List.{list_any}
+use Rattle.std.specs.Prelude.{ℕ, ◌+◌, ◌-◌, ◌==◌, Bool, List, ◌++◌, length, take, drop, bytes_eq, not, Option, Some, None, if◌then◌else◌}
 use Rattle.rdm_saved.specs.declared.errors.RestoreError.{RestoreError}
 use Rattle.rdm_saved.specs.declared.errors.RestoreError.TheVariants.{Length, Altered, OfAnother}
-use Rattle.rdm_profile.specs.declared.profile.Profile.{Profile}
-use Rattle.rdm_added.specs.Map.{Entry, entry}
 use Rattle.rdm_added.specs.Parameters.{Parameters}
-use Rattle.rdm_saved.specs.SavedText.{is_of_the_moment, profile_text, sum_text}
-
--- how many bytes are saved of the value of a PID
-abbrev pub size : ℕ → ℕ
-size pid =
-    if is_of_the_moment pid then 0
-    else if pid == 0x0082 then 33
-    else if list_any (λ word. pid == word) (0x00B0 ∷ 0x00F0 ∷ 0x0201 ∷ []) then 2
-    else if list_any (λ long. pid == long) (0x0400 ∷ 0x0401 ∷ 0x0402 ∷ 0x0405 ∷ []) then 4 else 1
-
-abbrev pub device_size : List Entry → ℕ
-device_size [] = 0
-device_size (e ∷ es) = size e.pid + device_size es
-
-abbrev pub devices_size : List (List Entry) → ℕ
-devices_size [] = 0
-devices_size (d ∷ ds) = device_size d + devices_size ds
-
--- The value after these bytes, which were saved of it, are restored: a value of the moment stays, and so do the present,
--- the lowest and the highest value of a sensor.
-abbrev pub restored_value : Entry → List ℕ → List ℕ
-restored_value e bytes =
-    if is_of_the_moment e.pid then e.bytes
-    else if e.pid == 0x0201 then take 6 e.bytes ++ bytes
-    else if e.pid == 0x0082 then take (slice_index bytes 0) (drop 1 bytes) else bytes
-
--- the values of a device, each restored from its bytes, which stand in the same order
-abbrev pub restored_device : List Entry → List ℕ → List Entry
-restored_device [] bytes = []
-restored_device (e ∷ es) bytes =
-    entry e.pid e.index (restored_value e (take (size e.pid) bytes)) ∷ restored_device es (drop (size e.pid) bytes)
-
-abbrev pub restored_devices : List (List Entry) → List ℕ → List (List Entry)
-restored_devices [] bytes = []
-restored_devices (d ∷ ds) bytes = restored_device d bytes ∷ restored_devices ds (drop (device_size d) bytes)
-
--- The value of a parameter that the maker adds after these 33 bytes are restored: the first tells how many of the others it has.
-abbrev pub restored_kept : Entry → List ℕ → Entry
-restored_kept e bytes = entry e.pid e.index (take (slice_index bytes 0) (drop 1 bytes))
-
-abbrev pub restored_added : List Entry → List ℕ → List Entry
-restored_added [] bytes = []
-restored_added (e ∷ es) bytes = restored_kept e (take 33 bytes) ∷ restored_added es (drop 33 bytes)
-
--- how many bytes are saved of these
-abbrev pub added_size : List Entry → ℕ
-added_size es = 33 * length es
-
--- how many bytes say the profile
-abbrev pub profile_size : Profile → ℕ
-profile_size p = 17 + 4 * length p.particulars.own + 2 * length p.particulars.without.items
+use Rattle.rdm_profile.specs.Values.{word_slots}
+use Rattle.rdm_saved.specs.Carrying.{said_len, carried}
+use Rattle.rdm_saved.specs.SameProfile.{device_size, devices_size, added_size, profile_size, restored_whole}
+use Rattle.rdm_saved.specs.SavedText.{profile_text, sum_text}
 
 -- how many bytes the image of these values has
 abbrev pub saved_len : Parameters → ℕ
 saved_len p = profile_size p.profile + device_size p.root + added_size p.added + devices_size p.subs + 4
 
--- The values after an image of them is restored.
+-- whether the image says this profile
+abbrev pub says_profile : Parameters → List ℕ → Bool
+says_profile p image =
+    bytes_eq (drop 2 (take (profile_size p.profile) image)) (profile_text p.profile (length p.added))
+
+-- The values after an image is restored: all that last, if it is of the same profile, and else those that both profiles know, and that
+-- the device can have.
 unfoldable pub restored : Parameters → List ℕ → Parameters
-restored p image = record p {
-  root = restored_device p.root (drop (profile_size p.profile) image);
-  added = restored_added p.added (drop (profile_size p.profile + device_size p.root) image);
-  subs = restored_devices p.subs (drop (profile_size p.profile + device_size p.root + added_size p.added) image);
-}
+restored p image = if says_profile p image then restored_whole p image else carried p image
 
 -- whether the last four bytes are the sum of the others
 abbrev pub is_sound : List ℕ → Bool
 is_sound image = bytes_eq (drop (length image - 4) image) (sum_text (take (length image - 4) image))
 
--- Why an image is refused, by the first reason: it has another length than one of these values; its sum is wrong; it is
--- of another profile.
-unfoldable pub restore_refusal : Parameters → List ℕ → Option RestoreError
-restore_refusal p image =
-    if not (length image == saved_len p) then Some Length
+-- whether the image is of the same manufacturer and model, in whichever version
+abbrev pub is_of_model : ℕ → Parameters → List ℕ → Bool
+is_of_model maker p image = bytes_eq (take 4 image) (word_slots maker ++ word_slots p.profile.root.model)
+
+-- how many bytes an image that begins so has: of the same profile as many as one of these values, else those that it says
+abbrev pub wanted_len : Parameters → List ℕ → ℕ
+wanted_len p image = if says_profile p image then saved_len p else said_len image
+
+-- Why an image is refused, by the first reason: it has another length; its sum is wrong; it is of another manufacturer or model.
+unfoldable pub restore_refusal : ℕ → Parameters → List ℕ → Option RestoreError
+restore_refusal maker p image =
+    if not (length image == wanted_len p image) then Some Length
     else if not (is_sound image) then Some Altered
-    else if not (bytes_eq (take (profile_size p.profile) image) (profile_text p.profile)) then Some OfAnother else None
+    else if not (is_of_model maker p image) then Some OfAnother else None

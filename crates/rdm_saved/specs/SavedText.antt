@@ -1,5 +1,5 @@
 -- Which values of devices outlive power-off, and what image they are saved as.
-use Rattle.std.specs.Prelude.{ℕ, ◌-◌, ◌%◌, ◌^◌, ◌==◌, Bool, List, [], ◌∷◌, ◌++◌, length, drop, replicate, flat_map, map, sum, if◌then◌else◌}
+use Rattle.std.specs.Prelude.{ℕ, ◌-◌, ◌%◌, ◌^◌, ◌==◌, Bool, List, [], ◌∷◌, ◌++◌, length, drop, replicate, flat_map, map, min, sum, if◌then◌else◌}
 use Rattle.std.specs.List.{list_any}
 use Rattle.rdm_profile.specs.declared.profile.Profile.{Profile}
 use Rattle.rdm_profile.specs.declared.profile.own.ParameterDef.{ParameterDef}
@@ -33,38 +33,47 @@ lasting e =
 abbrev pub device_text : List Entry → List ℕ
 device_text entries = flat_map lasting entries
 
--- what is saved of the values of parameters that the maker adds: each as a label, whatever its data are
+-- what is saved of a value of a parameter that the maker adds: its key, and the value as a label, whatever its data are
+abbrev pub kept_text : Entry → List ℕ
+kept_text e = word_slots e.pid ++ word_slots e.index ++ label_text e.bytes
+
 abbrev pub added_text : List Entry → List ℕ
-added_text entries = flat_map (λ e. label_text e.bytes) entries
+added_text entries = flat_map kept_text entries
 
 -- the model, the software version and how many personalities there are
 abbrev pub unit_text : DeviceUnit → List ℕ
 unit_text u = word_slots u.model ++ long_slots u.software ++ length u.personalities.items ∷ []
 
--- how many sub-devices and sensors there are, and the two kinds of devices
-abbrev pub devices_text : Profile → List ℕ
-devices_text p = word_slots p.subs ++ length p.sensors.items ∷ unit_text p.root ++ unit_text p.sub
+-- The two kinds of devices; and how many sub-devices, sensors, parameters that the maker adds, PIDs that are left out, and values of
+-- parameters that the maker adds there are.
+abbrev pub devices_text : Profile → ℕ → List ℕ
+devices_text p kept =
+    unit_text p.root ++ unit_text p.sub ++ word_slots p.subs
+    ++ length p.sensors.items ∷ length p.particulars.own ∷ length p.particulars.without.items ∷ word_slots (min kept 65535)
 
 -- a parameter that the maker adds: its PID, and which data it has
 abbrev pub own_text : ParameterDef → List ℕ
 own_text d = word_slots d.pid ++ data_type_of d.shape ∷ size_of d.shape ∷ []
 
--- What an image says of the profile, so that one of another profile is told: its devices, the parameters that the maker adds,
--- and the PIDs that are left out.
-abbrev pub profile_text : Profile → List ℕ
-profile_text p = devices_text p ++ flat_map own_text p.particulars.own ++ flat_map word_slots p.particulars.without.items
+-- What an image says of the profile, so that one of another profile is told, and where its values stand: its devices, the parameters
+-- that the maker adds, of which so many values are kept, and the PIDs that are left out.
+abbrev pub profile_text : Profile → ℕ → List ℕ
+profile_text p kept =
+    devices_text p kept ++ flat_map own_text p.particulars.own ++ flat_map word_slots p.particulars.without.items
 
 -- the sum of bytes, in four
 abbrev pub sum_text : List ℕ → List ℕ
 sum_text bytes = long_slots (sum bytes % 2 ^ 32)
 
--- the profile, the root, the parameters that the maker adds to it, and the sub-devices in their order
-abbrev pub values_text : Parameters → List ℕ
-values_text p = profile_text p.profile ++ device_text p.root ++ added_text p.added ++ flat_map device_text p.subs
+-- the manufacturer ID, the profile, the root, the parameters that the maker adds to it, and the sub-devices in their order
+abbrev pub values_text : ℕ → Parameters → List ℕ
+values_text maker p =
+    word_slots maker ++ profile_text p.profile (length p.added) ++ device_text p.root ++ added_text p.added
+    ++ flat_map device_text p.subs
 
--- The image of the values.
-unfoldable pub saved_text : Parameters → List ℕ
-saved_text p = values_text p ++ sum_text (values_text p)
+-- The image of the values of a fixture with this manufacturer ID.
+unfoldable pub saved_text : ℕ → Parameters → List ℕ
+saved_text maker p = values_text maker p ++ sum_text (values_text maker p)
 
 -- the values of a root device, and of sub-devices
 abbrev pub kept : Profile → CommonValues → RootValues → List CommonValues → Parameters

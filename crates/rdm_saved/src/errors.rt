@@ -13,13 +13,13 @@ pub enum SaveError {
 /// Why values aren't restored. The first reason that applies is given, in this order.
 #[derive(Clone, Copy, Debug, PartialEq, Eq, Error)]
 pub enum RestoreError {
-    /// The image has another length than one of these values: it is cut, or of other devices.
+    /// The image has another length than it says: it is cut, or it is no image.
     #[error("the image has another length")]
     Length,
     /// The last four bytes aren't the sum of the others: a byte is altered, or it is no image.
     #[error("the image is altered")]
     Altered,
-    /// It is the image of another profile.
-    #[error("the image is of another profile")]
+    /// It is the image of a fixture of another manufacturer or model.
+    #[error("the image is of another manufacturer or model")]
     OfAnother,
 }

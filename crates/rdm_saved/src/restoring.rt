@@ -3,7 +3,7 @@
 ghost use Rattle.std.specs.Prelude.{◌≡◌, ◌+◌, ◌*◌, [], ◌∷◌, length, take, drop, map};
 ghost use Rattle.rdm_added.specs.Views.State.{common_entries, own_entries, sensor_entries, kept_entry, added_entries};
 ghost use Rattle.rdm_profile.specs.Values.{word_slots, long_slots, signed_slots};
-ghost use Rattle.rdm_saved.specs.Restoring.{restored_device, restored_kept, restored_added, restored_devices};
+ghost use Rattle.rdm_saved.specs.SameProfile.{kept_said, restored_device, restored_kept, restored_added, restored_devices};
 
 use crate::saving::{COMMON_BYTES, KEPT_BYTES, LABEL_BYTES, OWN_BYTES};
 use rdm_device::{CommonValues, Kept, Measured, RootValues};
@@ -79,7 +79,7 @@ pub(crate) fn restore_each(subs: &mut [CommonValues], bytes: &[u8])
 #[tactic(auto, unfolding(rdm_added::specs::Views::State::own_entries))]
 pub(crate) fn restore_own(values: &mut RootValues, bytes: &[u8], added: &[u8])
     requires own { length bytes.now ≡ 15 + 2 * length values.old.sensors.items }
-    requires added { length added.now ≡ 33 * length values.old.added.items }
+    requires added { length added.now ≡ 37 * length values.old.added.items }
     ensures own { own_entries values.new ≡ restored_device (own_entries values.old) bytes.now }
     ensures added { added_entries values.new.added.items ≡ restored_added (added_entries values.old.added.items) added.now }
 {
@@ -118,7 +118,7 @@ pub(crate) fn restore_own(values: &mut RootValues, bytes: &[u8], added: &[u8])
 
 /// Restores the values of parameters that the maker adds.
 fn restore_added(values: &mut [Kept], bytes: &[u8])
-    requires { length bytes.now ≡ 33 * length values.old }
+    requires { length bytes.now ≡ 37 * length values.old }
     ensures { added_entries values.new ≡ restored_added (added_entries values.old) bytes.now }
 {
     for i in 0..values.len() {
@@ -131,15 +131,23 @@ fn restore_added(values: &mut [Kept], bytes: &[u8])
 
 /// Restores the value of one.
 fn restore_kept(kept: &mut Kept, bytes: &[u8])
-    requires { length bytes.now ≡ 33 }
+    requires { length bytes.now ≡ 37 }
     ensures { kept_entry kept.new ≡ restored_kept (kept_entry kept.old) bytes.now }
 {
-    let (front, rest) = bytes.split_at(1);
-    kept.bytes = label_in(front[0], rest);
+    kept.bytes = kept_in(bytes);
+}
+
+/// What these bytes say of a value: behind its key, the first tells how many of the others it has.
+pub(crate) fn kept_in(bytes: &[u8]) -> Text
+    requires { length bytes.now ≡ 37 }
+    ensures { result ≡ kept_said bytes.now }
+{
+    let (front, rest) = bytes.split_at(5);
+    label_in(front[4], rest)
 }
 
 /// Restores the recorded values of sensors.
-fn restore_sensors(sensors: &mut [Measured], bytes: &[u8])
+pub(crate) fn restore_sensors(sensors: &mut [Measured], bytes: &[u8])
     requires { length bytes.now ≡ 2 * length sensors.old }
     ensures { sensor_entries 0 sensors.new ≡ restored_device (sensor_entries 0 sensors.old) bytes.now }
 {

@@ -1,9 +1,9 @@
 //! From values to the image of them.
 
 ghost use Rattle.std.specs.Prelude.{◌≡◌, ◌≤◌, ◌*◌, ◌-◌, ◌%◌, ◌^◌, ◌++◌, [], ◌∷◌, length, replicate, flat_map, map, sum};
-ghost use Rattle.rdm_added.specs.Views.State.{common_entries, own_entries, sensor_entries, added_entries};
+ghost use Rattle.rdm_added.specs.Views.State.{common_entries, own_entries, sensor_entries, kept_entry, added_entries};
 ghost use Rattle.rdm_profile.specs.Values.{word_slots, long_slots, signed_slots};
-ghost use Rattle.rdm_saved.specs.SavedText.{device_text, added_text, label_text};
+ghost use Rattle.rdm_saved.specs.SavedText.{device_text, kept_text, label_text};
 ghost use Rattle.rdm_saved.specs.Laws.{IsWhole, AreTexts, AreWhole};
 
 use rdm_device::{CommonValues, Kept, Measured, RootValues};
@@ -15,7 +15,7 @@ pub(crate) const COMMON_BYTES: usize = 46;
 pub(crate) const OWN_BYTES: usize = 15;
 
 /// How many bytes are saved of a parameter that the maker adds.
-pub(crate) const KEPT_BYTES: usize = 33;
+pub(crate) const KEPT_BYTES: usize = 37;
 
 /// The most bytes of a label.
 pub(crate) const LABEL_BYTES: usize = 32;
@@ -88,8 +88,8 @@ pub(crate) fn save_each(subs: &[CommonValues], out: &mut [u8])
 /// Writes what is saved of parameters that the maker adds.
 #[tactic(auto, using(crate::proofs::Whole::texts_more))]
 pub(crate) fn save_added(values: &[Kept], out: &mut [u8])
-    requires { length out.old ≡ 33 * length values.now }
-    ensures text { out.new ≡ flat_map (λ kept. label_text kept.bytes) values.now }
+    requires { length out.old ≡ 37 * length values.now }
+    ensures text { out.new ≡ flat_map (λ kept. kept_text (kept_entry kept)) values.now }
     ensures whole { AreTexts (added_entries values.now) }
 {
     for i in 0..values.len() {
@@ -102,13 +102,15 @@ pub(crate) fn save_added(values: &[Kept], out: &mut [u8])
 
 /// Writes what is saved of one.
 fn save_kept(kept: &Kept, out: &mut [u8])
-    requires { length out.old ≡ 33 }
-    ensures text { out.new ≡ label_text kept.now.bytes }
+    requires { length out.old ≡ 37 }
+    ensures text { out.new ≡ kept_text (kept_entry kept.now) }
     ensures short { length kept.now.bytes ≤ 32 }
 {
     let bytes = kept.bytes.as_slice();
-    let (front, rest) = out.split_at_mut(1);
-    front.copy_from_slice(&[bytes.len() as u8]);
+    let pid = kept.pid.to_be_bytes();
+    let index = kept.index.to_be_bytes();
+    let (front, rest) = out.split_at_mut(5);
+    front.copy_from_slice(&[pid[0], pid[1], index[0], index[1], bytes.len() as u8]);
     write_label(bytes, rest);
 }
 

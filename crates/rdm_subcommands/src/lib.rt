@@ -6,6 +6,7 @@ mod capture;
 pub mod chart;
 pub mod check;
 pub mod fixture;
+mod left;
 pub mod parameters;
 pub mod play;
 mod printed;

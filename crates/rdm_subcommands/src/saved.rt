@@ -1,5 +1,6 @@
 //! The values of a virtual fixture, kept in a file over restarts.
 
+use crate::left::tell_left;
 use rdm_host::fault::Fault;
 use rdm_host::host::Host;
 use rdm_images::{AREA_BYTES, DISK_BYTES, DiskMemory, FileDisk, FileMemory, Images, ImagesError};
@@ -31,7 +32,7 @@ pub struct Saved<'a, F: Read + Write + Seek + OpenFile + Drop> {
 
 /// Restores the values of a fixture from the file of this name, or makes the file, with the values that it has.
 ///
-/// A file that isn't one of values is refused, and so is one with the values of a fixture of another profile.
+/// A file that isn't one of values is refused, and so is one with the values of a fixture of another manufacturer or model.
 pub(crate) fn open<'a, H: Host>(
     rt: H,
     name: &'a str,
@@ -70,7 +71,7 @@ fn restore_in<'a, H: Host>(
     live: &mut LiveFixture,
 ) -> Result<Saved<'a, H::File>, Fault<'a>> {
     let mut saved = Saved::new(rt, name, memory, live.responder())?;
-    saved.restore(live)?;
+    saved.restore(rt, live)?;
     saved.save(live.responder())?;
     Ok(saved)
 }
@@ -133,23 +134,28 @@ impl<'a, F: Read + Write + Seek + OpenFile + Drop> Saved<'a, F> {
         })
     }
 
-    /// Restores the values of the fixture from those that the areas hold.
-    fn restore(&mut self, live: &mut LiveFixture) -> Result<(), Fault<'a>> {
+    /// Restores the values of the fixture from those that the areas hold. What another version has saved and this one doesn't take over is told.
+    fn restore<H: Host>(&mut self, rt: H, live: &mut LiveFixture) -> Result<(), Fault<'a>> {
         let Saved {
             name,
             images,
             buffer,
             last: _,
-            next: _,
+            next,
         } = self;
         let image = match images.load(buffer) {
             Ok(Some(image)) => image,
             _ => return Err(Fault::NotSaved(*name)),
         };
         match live.restore(image) {
-            Ok(()) => Ok(()),
-            Err(RestoreError::Altered) => Err(Fault::NotSaved(*name)),
-            Err(RestoreError::Length | RestoreError::OfAnother) => Err(Fault::OtherProfile(*name)),
+            Ok(()) => {
+                if live.responder().save_into(next).is_ok() {
+                    tell_left(rt, *name, image, next);
+                }
+                Ok(())
+            }
+            Err(RestoreError::Length | RestoreError::Altered) => Err(Fault::NotSaved(*name)),
+            Err(RestoreError::OfAnother) => Err(Fault::OtherProfile(*name)),
         }
     }
 

@@ -6,7 +6,7 @@ ghost use Rattle.rdm_params.specs.Commands.Placing.{place_refusal};
 ghost use Rattle.rdm_outbox.specs.Jobs.{outstanding_count};
 ghost use Rattle.rdm_responder.specs.History.{Changed, Placed, Restored, then_event};
 ghost use Rattle.rdm_responder.specs.Lawful.{IsLawful, MayChange};
-ghost use Rattle.rdm_responder.specs.Laws.{values_of};
+ghost use Rattle.rdm_responder.specs.Laws.{maker_of, values_of};
 ghost use Rattle.rdm_responder.specs.Rules.{account_of, answered, reply_of};
 ghost use Rattle.rdm_responder.specs.Runs.{IsChange, outbox_of};
 ghost use Rattle.rdm_responder.specs.Settings.{HasBadProfile, HasBadSize, HasBadUid, setup_with, usual_settings};
@@ -127,7 +127,7 @@ impl LiveFixture {
         ensures lawful { (s : Situation) → IsLawful s.history → IsIn self.old s →
             (IsOk result ↔ IsLawful (then_event s.history (Restored image.now))) }
         ensures refused { (s : Situation) → IsIn self.old s →
-            result_err result ≡ restore_refusal (values_of s.history) image.now }
+            result_err result ≡ restore_refusal (maker_of s.history) (values_of s.history) image.now }
         ensures fixture { OnOk result ((s : Situation) → IsIn self.old s → IsIn self.new (after_restore s image.now)) }
         ensures same { OnErr result (self.new ≡ self.old) }
     {

@@ -3,7 +3,7 @@
 ghost use Rattle.std.specs.Prelude.{◌≡◌, ◌≢◌, ◌↔◌, ◌++◌, min, nat_le, false, length, drop, if◌then◌else◌};
 ghost use Rattle.rdm_responder.specs.History.{History, Restored, then_event};
 ghost use Rattle.rdm_responder.specs.Lawful.{IsLawful};
-ghost use Rattle.rdm_responder.specs.Laws.{values_of};
+ghost use Rattle.rdm_responder.specs.Laws.{maker_of, values_of};
 ghost use Rattle.rdm_responder.specs.StandsFor.{StandsFor};
 ghost use Rattle.rdm_saved.specs.Restoring.{restore_refusal, saved_len};
 ghost use Rattle.rdm_saved.specs.SavedText.{saved_text};
@@ -31,7 +31,7 @@ pub(crate) fn save(endpoint: &Endpoint, image: &mut [u8], count: &mut usize) -> 
     ensures told { (h : History) → IsFor endpoint.now h →
         result ≡ (if nat_le (saved_len (values_of h)) (length image.old) then Status.Done else Status.ShortImage) }
     ensures written { (h : History) → IsFor endpoint.now h → result ≡ Status.Done →
-        (count.new ≡ saved_len (values_of h)) × (image.new ≡ saved_text (values_of h) ++ drop count.new image.old) }
+        (count.new ≡ saved_len (values_of h)) × (image.new ≡ saved_text (maker_of h) (values_of h) ++ drop count.new image.old) }
     ensures absent { (result ≡ Status.Absent) ↔ (is_responder endpoint.now ≡ false) }
     ensures same { result ≢ Status.Done → image.new ≡ image.old }
 {
@@ -50,7 +50,7 @@ pub(crate) fn save(endpoint: &Endpoint, image: &mut [u8], count: &mut usize) -> 
 /// Restores the values from an image.
 pub(crate) fn restore(endpoint: &mut Endpoint, image: &[u8]) -> Status
     ensures told { (h : History) → IsFor endpoint.old h →
-        result ≡ of_restore_refusal (restore_refusal (values_of h) image.now) }
+        result ≡ of_restore_refusal (restore_refusal (maker_of h) (values_of h) image.now) }
     ensures lawful { (h : History) → IsLawful h → IsFor endpoint.old h →
         ((result ≡ Status.Done) ↔ IsLawful (then_event h (Restored image.now))) }
     ensures stands { (h : History) → IsFor endpoint.old h → result ≡ Status.Done →
@@ -67,7 +67,7 @@ pub(crate) fn restore(endpoint: &mut Endpoint, image: &[u8]) -> Status
 /// Restores the values from an image, as `restore`.
 fn restore_values(running: &mut RunningResponder, image: &[u8]) -> Status
     ensures told { (h : History) → StandsFor running.old.responder h →
-        result ≡ of_restore_refusal (restore_refusal (values_of h) image.now) }
+        result ≡ of_restore_refusal (restore_refusal (maker_of h) (values_of h) image.now) }
     ensures lawful { (h : History) → IsLawful h → StandsFor running.old.responder h →
         ((result ≡ Status.Done) ↔ IsLawful (then_event h (Restored image.now))) }
     ensures stands { (h : History) → StandsFor running.old.responder h → result ≡ Status.Done →

@@ -1,11 +1,13 @@
 //! Values of a responder that outlive power-off, as C saves and restores them.
 
-ghost use Rattle.std.specs.Prelude.{◌≡◌, ◌≢◌, ◌↔◌, min, nat_le, false, length, if◌then◌else◌, List, ℕ};
+ghost use Rattle.std.specs.Prelude.{◌≡◌, ◌≢◌, ◌↔◌, min, nat_le, false, length, if◌then◌else◌, List, ℕ, MatchOption};
 ghost use types.Logic.{sem};
 ghost use Rattle.rdm_responder.specs.History.{History, Restored, then_event};
 ghost use Rattle.rdm_responder.specs.Lawful.{IsLawful};
-ghost use Rattle.rdm_responder.specs.Laws.{values_of};
+ghost use Rattle.rdm_responder.specs.Laws.{maker_of, values_of};
 ghost use Rattle.rdm_saved.specs.Restoring.{restore_refusal, saved_len};
+ghost use Rattle.rdm_updates.specs.Left.{left};
+ghost use Rattle.rdm_c.specs.Left.{numbers_of};
 ghost use Rattle.rdm_c.specs.Places.{writable_at};
 ghost use Rattle.rdm_c.specs.Statuses.{code_of, of_restore_refusal};
 ghost use Rattle.rdm_c.specs.Endpoints.{HeldFor, LeavesBytes, found, holds_responder};
@@ -13,8 +15,10 @@ ghost use Rattle.rdm_c.specs.Endpoints.{HeldFor, LeavesBytes, found, holds_respo
 use crate::endpoint;
 use crate::handle::Handle;
 use crate::keeping::{put, take};
+use crate::left::LeftNumbers;
 use crate::lent::writable_address_of;
 use crate::status::Status;
+use rdm_updates::left;
 use std::alloc::Global;
 use std::slice;
 
@@ -86,8 +90,9 @@ fn save_slice(alloc: Global, responder: &mut Handle, image: &mut [u8], count: &m
 /// Restores the values from an image that `felosumay_responder_save` wrote, as firmware does when the fixture was switched on:
 /// at once, and with no message. The number of power cycles is one more than was saved (E1.20 section 10.8.6).
 ///
-/// If the image has another length than one of these values, that comes first, then that it is altered, and last that it is of
-/// another profile. Nothing changes then.
+/// After an update of the firmware it may be an image of the version before: then those values are restored that both versions know, as far
+/// as this one can have them. If the image has another length than it says, that comes first, then that it is altered, and last that it is of
+/// another manufacturer or model. Nothing changes then.
 #[unsafe(no_mangle)]
 pub extern "C" fn felosumay_responder_restore_nonnull(
     alloc: Global,
@@ -95,7 +100,7 @@ pub extern "C" fn felosumay_responder_restore_nonnull(
     image: &[u8],
 ) -> u8
     ensures told { (h : History) → HeldFor responder.old.held h →
-        result ≡ code_of (of_restore_refusal (restore_refusal (values_of h) image.now)) }
+        result ≡ code_of (of_restore_refusal (restore_refusal (maker_of h) (values_of h) image.now)) }
     ensures lawful { (h : History) → IsLawful h → HeldFor responder.old.held h →
         ((result ≡ code_of Status.Done) ↔ IsLawful (then_event h (Restored image.now))) }
     ensures stands { (h : History) → HeldFor responder.old.held h → result ≡ code_of Status.Done →
@@ -109,4 +114,26 @@ pub extern "C" fn felosumay_responder_restore_nonnull(
     let status = endpoint::saving::restore(&mut endpoint, image);
     put(responder, endpoint);
     status.code()
+}
+
+/// Tells which value of an older image, from this number on, a newer image doesn't have. After an update, the older one is that which was
+/// restored, and the newer one was saved then. DEVICE_POWER_CYCLES is among them, since it has counted one more.
+///
+/// If there is none, nothing is written.
+#[unsafe(no_mangle)]
+pub extern "C" fn felosumay_saved_left_nonnull(
+    older: &[u8],
+    newer: &[u8],
+    from: usize,
+    value: &mut LeftNumbers,
+) -> u8
+    ensures told { MatchOption (left older.now newer.now from) (result ≡ code_of Status.NoMore)
+        (λ found. (result ≡ code_of Status.Done) × (value.new ≡ numbers_of found)) }
+    ensures same { result ≢ code_of Status.Done → value.new ≡ value.old }
+{
+    let Some(found) = left(older, newer, from) else {
+        return Status::NoMore.code();
+    };
+    *value = LeftNumbers::of(&found);
+    Status::Done.code()
 }

@@ -20,16 +20,18 @@ impl Devices {
         saved_len(&self.profile, &self.own, self.subs.as_slice())
     }
 
-    /// Writes the image of the values that outlive power-off to the front of these bytes, and tells how many it has.
+    /// Writes the image of the values that outlive power-off to the front of these bytes, and tells how many it has. It says the
+    /// manufacturer ID of the fixture.
     ///
     /// It is `Short` if there are fewer bytes, and then nothing is written.
-    pub fn save_into(&self, image: &mut [u8]) -> Result<usize, SaveError>
-        ensures written { IfOk result (λ n. (n ≡ saved_len self.now) × (image.new ≡ saved_text self.now ++ drop n image.old)) }
+    pub fn save_into(&self, maker: u16, image: &mut [u8]) -> Result<usize, SaveError>
+        ensures written { IfOk result (λ n. (n ≡ saved_len self.now) × (image.new ≡ saved_text maker self.now ++ drop n image.old)) }
         ensures whole { IfOk result (λ n. IsWhole self.now.root × AreTexts self.now.added × AreWhole self.now.subs) }
         ensures refused { result_err result ≡ (if nat_le (saved_len self.now) (length image.old) then None else Some Short) }
         ensures same { OnErr result (image.new ≡ image.old) }
     {
         save_into(
+            maker,
             &self.profile,
             &self.root,
             &self.own,
@@ -38,15 +40,18 @@ impl Devices {
         )
     }
 
-    /// Restores the values from an image of such values. Those of the moment stay as they are.
+    /// Restores the values from an image of a fixture of the same manufacturer and model: all that last, if it was saved with the same
+    /// profile; else, after an update, those that both versions know, as far as this one can have them. Those of the moment stay as they
+    /// are.
     ///
     /// An image is refused as `RestoreError` says, and then nothing changes.
-    pub fn restore(&mut self, image: &[u8]) -> Result<(), RestoreError>
-        ensures refused { result_err result ≡ restore_refusal self.old image.now }
+    pub fn restore(&mut self, maker: u16, image: &[u8]) -> Result<(), RestoreError>
+        ensures refused { result_err result ≡ restore_refusal maker self.old image.now }
         ensures after { OnOk result (self.new ≡ restored self.old image.now) }
         ensures same { OnErr result (self.new ≡ self.old) }
     {
         restore(
+            maker,
             &self.profile,
             &mut self.root,
             &mut self.own,

@@ -7,7 +7,7 @@ use std::alloc::Global;
 use std::process::Abort;
 
 /// The image of the demo fixture with one sub-device.
-const IMAGE: usize = 132;
+const IMAGE: usize = 138;
 
 /// What a GET of the root answers.
 fn shows(rt: &impl Abort, responder: &Responder, pid: u16, expected: &[u8]) {
@@ -72,6 +72,18 @@ fn what_was_saved_is_restored(rt: HostRuntime) {
     }
 }
 
+/// After an update that adds a sub-device, the values of before are back.
+#[test]
+fn an_update_keeps_values(rt: HostRuntime) {
+    let image = saved_image(&rt, rt.alloc());
+    let mut updated = responder_with(&rt, rt.alloc(), 2, 1);
+    places(&rt, &mut updated, 0x1000, &[1]);
+    assert!(rt; updated.restore(&image) == Ok(()));
+    for (pid, expected) in RESTORED {
+        shows(&rt, &updated, *pid, expected);
+    }
+}
+
 /// What is saved of a responder that was switched on 41 times.
 fn saved_image(rt: &impl Abort, alloc: Global) -> [u8; IMAGE] {
     let mut saved = responder_with(rt, alloc, 1, 1);
@@ -129,19 +141,25 @@ fn refuses_fronts(rt: &impl Abort, responder: &mut Responder, image: &[u8; IMAGE
     }
 }
 
-/// An image of which one byte is another is refused.
+/// An image of which one byte is another is refused: by its length, if the byte is one of the counts that say how long it is.
 fn refuses_altered(rt: &impl Abort, responder: &mut Responder, image: &[u8; IMAGE]) {
     for i in 0..IMAGE {
         let mut altered = *image;
         altered[i] = altered[i].wrapping_add(1);
-        assert!(rt; responder.restore(&altered) == Err(RestoreError::Altered));
+        let is_count = 16 <= i && i < 23;
+        let wanted = if is_count {
+            RestoreError::Length
+        } else {
+            RestoreError::Altered
+        };
+        assert!(rt; responder.restore(&altered) == Err(wanted), "{i}");
     }
 }
 
-/// The image of another fixture, with its right checksum, is refused.
+/// The image of a fixture of another manufacturer, with its right checksum, is refused.
 fn refuses_another(rt: &impl Abort, responder: &mut Responder, image: [u8; IMAGE]) {
     let mut other = image;
-    other[1] = 2;
+    other[1] = other[1].wrapping_add(1);
     other[IMAGE - 1] = other[IMAGE - 1].wrapping_add(1);
     assert!(rt; responder.restore(&other) == Err(RestoreError::OfAnother));
 }

@@ -8,8 +8,8 @@ returns-clause-root c =
 
 pub returns-clause-added : goal.returns-clause-added
 returns-clause-added c =
-    added_parts c.args.own.now.added.items _ (length c.args.own.now.sensors.items) c.args.bytes.now _ _ _ c.split_at.ensures.back (c.split_at-2.ensures.back ∙ ap (λ (n : ℕ). drop (15 + 2 * n) c.split_at.result.1.now) c.len.ensures.value) (c.split_at-3.ensures.front ∙ ap (λ (n : ℕ). take (33 * n) c.split_at-2.result.1.now) c.added_count.ensures) c.restore_own.ensures.added
+    added_parts c.args.own.now.added.items _ (length c.args.own.now.sensors.items) c.args.bytes.now _ _ _ c.split_at.ensures.back (c.split_at-2.ensures.back ∙ ap (λ (n : ℕ). drop (15 + 2 * n) c.split_at.result.1.now) c.len.ensures.value) (c.split_at-3.ensures.front ∙ ap (λ (n : ℕ). take (37 * n) c.split_at-2.result.1.now) c.added_count.ensures) c.restore_own.ensures.added
 
 pub returns-clause-subs : goal.returns-clause-subs
 returns-clause-subs c =
-    subs_parts c.args.subs.now c.restore_each.new.subs (length c.args.own.now.sensors.items) (length c.args.own.now.added.items) c.args.bytes.now _ _ _ _ c.split_at.ensures.back (c.split_at-2.ensures.back ∙ ap (λ (n : ℕ). drop (15 + 2 * n) c.split_at.result.1.now) c.len.ensures.value) (c.split_at-3.ensures.back ∙ ap (λ (n : ℕ). drop (33 * n) c.split_at-2.result.1.now) c.added_count.ensures) c.split_at-4.ensures.front c.restore_each.ensures
+    subs_parts c.args.subs.now c.restore_each.new.subs (length c.args.own.now.sensors.items) (length c.args.own.now.added.items) c.args.bytes.now _ _ _ _ c.split_at.ensures.back (c.split_at-2.ensures.back ∙ ap (λ (n : ℕ). drop (15 + 2 * n) c.split_at.result.1.now) c.len.ensures.value) (c.split_at-3.ensures.back ∙ ap (λ (n : ℕ). drop (37 * n) c.split_at-2.result.1.now) c.added_count.ensures) c.split_at-4.ensures.front c.restore_each.ensures

@@ -1,6 +1,6 @@
 use Rattle.std.proofs.Common.{◌≡◌, length, take, drop}
 use Rattle.rdm_added.specs.Views.State.{added_entries}
-use Rattle.rdm_saved.specs.Restoring.{restored_added}
+use Rattle.rdm_saved.specs.SameProfile.{restored_added}
 use Rattle.rdm_saved.proofs.restoring.restore_added.Given as goal
 
 -- the values before this one are restored, and the others are as they were

@@ -1,7 +1,7 @@
 use Rattle.std.proofs.Common.{◌≡◌, ℕ, ◌+◌, ◌*◌, ◌-◌, take, drop, get_or, ap, ◌∙◌, arith}
 use Rattle.std.proofs.lemmas.List.{length-set}
 use Rattle.rdm_added.specs.Views.State.{common_entries}
-use Rattle.rdm_saved.specs.Restoring.{restored_device}
+use Rattle.rdm_saved.specs.SameProfile.{restored_device}
 use Rattle.rdm_saved.proofs.Restored.{each_restored, others_after}
 use Rattle.rdm_saved.proofs.restoring.restore_each.Goals as goal
 

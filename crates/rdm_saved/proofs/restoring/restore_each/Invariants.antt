@@ -1,6 +1,6 @@
 use Rattle.std.proofs.Common.{◌≡◌, length, take, drop, map}
 use Rattle.rdm_added.specs.Views.State.{common_entries}
-use Rattle.rdm_saved.specs.Restoring.{restored_devices}
+use Rattle.rdm_saved.specs.SameProfile.{restored_devices}
 use Rattle.rdm_saved.proofs.restoring.restore_each.Given as goal
 
 -- the sub-devices before this one are restored, and the others are as they were

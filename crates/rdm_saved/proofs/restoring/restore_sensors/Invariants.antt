@@ -1,6 +1,6 @@
 use Rattle.std.proofs.Common.{◌≡◌, length, take, drop}
 use Rattle.rdm_added.specs.Views.State.{sensor_entries}
-use Rattle.rdm_saved.specs.Restoring.{restored_device}
+use Rattle.rdm_saved.specs.SameProfile.{restored_device}
 use Rattle.rdm_saved.proofs.restoring.restore_sensors.Given as goal
 
 -- the sensors before this one are restored, and the others are as they were

@@ -1,4 +1,5 @@
-use Rattle.std.proofs.Common.{ap, ◌∙◌, sym}
+use Rattle.std.proofs.Common.{◌≡◌, ℕ, List, refl, ap, ◌∙◌, sym}
+use Rattle.rdm_frame.specs.declared.uid.Uid.{Uid}
 use Rattle.rdm_params.specs.Commands.Saving.{powered_on}
 use Rattle.rdm_params.specs.Device.Parameters.{Parameters}
 use Rattle.rdm_responder.specs.History.{Restored}
@@ -11,15 +12,18 @@ use Rattle.rdm_responder.proofs.Choices.{chosen_after_restore}
 use Rattle.rdm_responder.proofs.responder.Responder.restore.Goals as goal
 use Rattle.rdm_saved.specs.Restoring.{restored, restore_refusal}
 
+refusal_same : {m n : ℕ} {p q : Parameters} (image : List ℕ) → m ≡ n → p ≡ q → restore_refusal m p image ≡ restore_refusal n q image
+refusal_same image em ep = rw (em, ep) refl
+
 pub returns-clause-lawful : goal.returns-clause-lawful
 returns-clause-lawful c h lawful stands =
-    let refused = c.power_on.ensures.refused ∙ ap (λ (s : State). restore_refusal s.parameters c.args.image.now) c.self.view_is ∙ ap (λ (p : Parameters). restore_refusal p c.args.image.now) stands.parameters in
+    let refused = c.power_on.ensures.refused ∙ ap (λ (s : State). restore_refusal s.uid.maker s.parameters c.args.image.now) c.self.view_is ∙ refusal_same c.args.image.now (ap (λ (u : Uid). u.maker) stands.uid) stands.parameters in
     let event = Restored c.args.image.now in
     (λ ok. lawful_then h event lawful (sym refused ∙ (ok_unless_refused c.power_on.result).0 ok), λ after. (ok_unless_refused c.power_on.result).1 (refused ∙ may_happen h event after))
 
 pub returns-clause-refused : goal.returns-clause-refused
 returns-clause-refused c h stands =
-    c.power_on.ensures.refused ∙ ap (λ (s : State). restore_refusal s.parameters c.args.image.now) c.self.view_is ∙ ap (λ (p : Parameters). restore_refusal p c.args.image.now) stands.parameters
+    c.power_on.ensures.refused ∙ ap (λ (s : State). restore_refusal s.uid.maker s.parameters c.args.image.now) c.self.view_is ∙ refusal_same c.args.image.now (ap (λ (u : Uid). u.maker) stands.uid) stands.parameters
 
 pub returns-clause-stands : goal.returns-clause-stands
 returns-clause-stands c =

@@ -1,0 +1,9 @@
+mod Pieces
+mod Devices
+mod Image
+mod Updating
+mod Numbered
+mod Listed
+mod Starting
+mod Reading
+mod ReadBack

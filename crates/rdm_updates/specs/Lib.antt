@@ -1,0 +1,5 @@
+pub mod Updated
+pub mod Laws
+pub mod SavedValues
+pub mod Left
+pub mod Lasting
