@@ -1,8 +1,8 @@
 //! What a fixture does over time by itself: what a sensor shows, a list of points, each a value at a time, and what is shown between them;
 //! and status messages that come at their times.
 //!
-//! `Course::value_at` says what is shown at a time, and `Course::has_come` whether a point has come since another time. The definitions
-//! are `specs/Courses.antt` and `specs/Notices.antt`.
+//! `Course::value_at` says what is shown at a time, and `Course::shown_since` what was shown since a look; `Notice::has_come` says whether
+//! a status message has come since then. The definitions are `specs/Courses.antt` and `specs/Notices.antt`.
 #![tactic(auto)]
 
 mod course;
