@@ -244,6 +244,39 @@ static felosumay_result slow(void) {
     return result;
 }
 
+/* What DISC_MUTE is answered with: the control field, and the binding UID if there is one. */
+static felosumay_result mute(const char *what) {
+    static const uint8_t frame[FELOSUMAY_FRAME_BYTES] = {0xCC, 1, 24, 0x7F, 0xF0, 0, 0, 0, 1, 0x7F, 0xF0, 0, 0,
+                                                         0,    2, 0,  1,    0,    0, 0, 0x10, 0, 2, 0,    3,    0xD9};
+    felosumay_responder fixture = {0};
+    felosumay_stepped stepped;
+    uint8_t reply[FELOSUMAY_FRAME_BYTES];
+    felosumay_result result = felosumay_responder_new(&fixture, 0x7FF0, 1, &profile, 8);
+    if (result == FELOSUMAY_DONE) {
+        felosumay_responder_step(&fixture, frame, 26, reply, &stepped);
+        printf("%s:", what);
+        for (uint64_t i = 24; i + 2 < stepped.count; i++)
+            printf(" %02X", reply[i]);
+        printf("\n");
+    }
+    felosumay_responder_free(&fixture);
+    return result;
+}
+
+/* A fixture with one port, and the last of several, which waits for firmware behind a proxy, and has a sub-device. */
+static felosumay_result mutes(void) {
+    static const uint8_t first[6] = {0x7F, 0xF0, 0x12, 0x34, 0x56, 0x78};
+    felosumay_result result = mute("DISC_MUTE, one port");
+    profile.boot_loader = 1;
+    profile.proxied_device = 255;
+    profile.subs = 1;
+    memcpy(profile.binding_uid, first, sizeof first);
+    if (result == FELOSUMAY_DONE)
+        result = mute("a boot loader behind a proxy, with a sub-device and several ports");
+    begin();
+    return result;
+}
+
 /* A demonstration fixture, and a console. */
 typedef struct {
     felosumay_responder fixture;
@@ -372,6 +405,8 @@ int main(void) {
     left_out();
     if (result == FELOSUMAY_DONE)
         result = slow();
+    if (result == FELOSUMAY_DONE)
+        result = mutes();
     if (result == FELOSUMAY_DONE)
         result = altered_jobs();
     if (result == FELOSUMAY_DONE)

@@ -268,10 +268,18 @@ typedef struct {
     uint64_t without_count;                  /* 0 to 36 */
     felosumay_estimates estimates;         /* how long slow commands take */
     felosumay_workers workers;             /* and which worker carries them out */
+    /* What the answers to DISC_MUTE and DISC_UN_MUTE tell, beside whether there are sub-devices (section 7.6): */
+    uint8_t boot_loader;    /* 1 if it can do nothing until firmware is uploaded to it, else 0 */
+    uint8_t proxied_device; /* 1 if it isn't on this line itself, and a proxy answers for it, else 0 */
+    /* Which messages of changes at the menu wait: */
+    uint8_t newest_only; /* 1 if one takes the place of another that still waits and tells of the same parameter; 0 if each waits */
     FELOSUMAY_WIDE const felosumay_choice *choices; /* the names of choices, by ascending PID and number */
     uint64_t choice_count;                   /* 0 to 64 */
     uint8_t lock_count;                    /* 0 to 64 */
     felosumay_lock locks[64];              /* which parameters are locked in which state, in any order */
+    /* The UID of its first port, if it has several, each with a UID of its own: the answers to DISC_MUTE tell it (section 7.6). It is the
+     * manufacturer ID and then the device ID, the most significant byte first, or {0} if the fixture has one port. */
+    uint8_t binding_uid[6];
 } felosumay_profile;
 
 /* The rules of a profile, in the order in which they are tested. BAD_PROFILE says that one of them is broken. */
@@ -299,7 +307,8 @@ enum {
     FELOSUMAY_FAULT_PARAMETER_NAMES = 20,   /* each choice has its names, each name its choice; CURVE has as many as DIMMER_INFO */
     FELOSUMAY_FAULT_PARAMETER_LOCKS = 21,   /* each lock is for a state from 1 to the greatest of LOCK_STATE */
     FELOSUMAY_FAULT_PARAMETER_LOCK_STATE = 22, /* LOCK_STATE can be read, and has LOCK_PIN beside it */
-    FELOSUMAY_FAULT_PARAMETER_LOCKED = 23   /* each lock is for a parameter with a quick SET at the root, and not for LOCK_STATE */
+    FELOSUMAY_FAULT_PARAMETER_LOCKED = 23,  /* each lock is for a parameter with a quick SET at the root, and not for LOCK_STATE */
+    FELOSUMAY_FAULT_BINDING_UID = 24        /* the device ID of binding_uid isn't FFFFFFFF, which addresses more than one device */
 };
 
 /* The first rule that the profile breaks, or NO_FAULT; then `new` doesn't return BAD_PROFILE. */
@@ -385,16 +394,17 @@ felosumay_result felosumay_responder_demo(felosumay_responder *responder, uint16
 /* How many bytes of memory a responder takes with room for so many messages and jobs and status entries, and with so many
  * sub-devices, each block rounded up to 16 bytes: `new` asks the heap for no more, and no later call asks it for any.
  * FELOSUMAY_RESPONDER_BYTES is the same as a constant, for the size of an array. A profile with unusual features takes more: add
- * each of these that applies. FELOSUMAY_PARTICULARS_BYTES if it has `parameters`, `without`, `choices`, `locks`, `more_slots` or
- * unusual `estimates`; FELOSUMAY_OWN_PARAMETERS_BYTES of the number of its parameters; FELOSUMAY_VALUES_BYTES of how many of them are
- * orders, and how many scenes PRESET_STATUS has; FELOSUMAY_CHOICES_BYTES and FELOSUMAY_LOCKS_BYTES of those numbers.
+ * each of these that applies. FELOSUMAY_PARTICULARS_BYTES if it has `parameters`, `without`, `choices`, `locks`, `more_slots`, unusual
+ * `estimates`, `boot_loader`, `proxied_device`, `newest_only` or `binding_uid`; FELOSUMAY_OWN_PARAMETERS_BYTES of the number of its
+ * parameters; FELOSUMAY_VALUES_BYTES of how many of them are orders, and how many scenes PRESET_STATUS has; FELOSUMAY_CHOICES_BYTES and
+ * FELOSUMAY_LOCKS_BYTES of those numbers.
  * `fits` tests whether a responder of this size fits into so many bytes at this address, as felosumay_memory.h makes one: UNALIGNED,
  * SHORT_MEMORY, in this order. Both calls calculate with any sizes; `new` rejects a BAD_SIZE. */
 uint64_t felosumay_responder_size(uint16_t queue_size, uint16_t entries, uint16_t sub_devices);
 felosumay_result felosumay_responder_fits(uint64_t address, uint64_t bytes, uint16_t queue_size, uint16_t entries,
                                           uint16_t sub_devices);
 #define FELOSUMAY_ROUNDED(bytes) (((uint64_t)(bytes) + 15) / 16 * 16)
-#define FELOSUMAY_PARTICULARS_BYTES FELOSUMAY_ROUNDED(144)
+#define FELOSUMAY_PARTICULARS_BYTES FELOSUMAY_ROUNDED(160)
 #define FELOSUMAY_OWN_PARAMETERS_BYTES(count) ((count) == 0 ? (uint64_t)0 : FELOSUMAY_ROUNDED(24) + (256 + 48) * (uint64_t)(count))
 #define FELOSUMAY_VALUES_BYTES(count) (48 * (uint64_t)(count))
 #define FELOSUMAY_CHOICES_BYTES(count) ((count) == 0 ? (uint64_t)0 : FELOSUMAY_ROUNDED(3080))
@@ -968,9 +978,12 @@ FELOSUMAY_ASSERT(offsetof(felosumay_profile, parameter_count) == 3616);
 FELOSUMAY_ASSERT(offsetof(felosumay_profile, without) == 3624);
 FELOSUMAY_ASSERT(offsetof(felosumay_profile, without_count) == 3632);
 FELOSUMAY_ASSERT(offsetof(felosumay_profile, estimates) == 3640);
+FELOSUMAY_ASSERT(offsetof(felosumay_profile, boot_loader) == 3652);
+FELOSUMAY_ASSERT(offsetof(felosumay_profile, newest_only) == 3654);
 FELOSUMAY_ASSERT(offsetof(felosumay_profile, choices) == 3656);
 FELOSUMAY_ASSERT(offsetof(felosumay_profile, choice_count) == 3664);
 FELOSUMAY_ASSERT(offsetof(felosumay_profile, lock_count) == 3672);
+FELOSUMAY_ASSERT(offsetof(felosumay_profile, binding_uid) == 3930);
 FELOSUMAY_ASSERT(sizeof(felosumay_job) == 16);
 FELOSUMAY_ASSERT(sizeof(felosumay_stepped) == 32);
 FELOSUMAY_ASSERT(offsetof(felosumay_stepped, replied) == 8);

@@ -31,8 +31,12 @@ static const felosumay_profile PROFILE = {
     /* the usual times and workers of slow commands */
     {0, 0, 0, 0},
     {0, 0, 0, 0},
+    /* no boot loader, not behind a proxy, and every message of a change waits */
+    0, 0, 0,
     /* no names of choices, and no locks */
     NULL, 0, 0, {{0, 0}},
+    /* one port */
+    {0},
 };
 
 static void print_bytes(const char *what, const uint8_t *bytes, uint64_t count) {

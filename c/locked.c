@@ -47,9 +47,13 @@ static const felosumay_profile PROFILE = {
     /* the usual times and workers of slow commands */
     {0, 0, 0, 0},
     {0, 0, 0, 0},
+    /* no boot loader, not behind a proxy, and every message of a change waits */
+    0, 0, 0,
     /* the name of its lock state, and what that locks */
     NAMES, sizeof NAMES / sizeof *NAMES,
     1, {{FELOSUMAY_PID_DMX_START_ADDRESS, 1}},
+    /* one port */
+    {0},
 };
 
 /* What the firmware does with an order: it reads its data, which no GET reads, and carries it out once the reply is on the line. */

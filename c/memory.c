@@ -89,6 +89,18 @@ static void particulars(void) {
     profile.more_slots = 1;
     expect_more("more slots", FELOSUMAY_PARTICULARS_BYTES);
     profile.more_slots = 0;
+    profile.boot_loader = 1;
+    expect_more("a boot loader", FELOSUMAY_PARTICULARS_BYTES);
+    profile.boot_loader = 0;
+    profile.proxied_device = 1;
+    expect_more("a proxied device", FELOSUMAY_PARTICULARS_BYTES);
+    profile.proxied_device = 0;
+    profile.newest_only = 1;
+    expect_more("the newest message only", FELOSUMAY_PARTICULARS_BYTES);
+    profile.newest_only = 0;
+    profile.binding_uid[5] = 1;
+    expect_more("a binding UID", FELOSUMAY_PARTICULARS_BYTES);
+    profile.binding_uid[5] = 0;
     profile.without = without;
     profile.without_count = 1;
     expect_more("a parameter less", FELOSUMAY_PARTICULARS_BYTES);

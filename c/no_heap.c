@@ -22,7 +22,9 @@ static const felosumay_profile PROFILE = {
     0, NULL, 0, NULL, 0,
     {0, 0, 0, 0},
     {0, 0, 0, 0},
+    0, 0, 0,
     NULL, 0, 0, {{0, 0}},
+    {0},
 };
 
 /* A request, and the reply that it is to have. */

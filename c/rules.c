@@ -366,6 +366,20 @@ static void locked(void) {
     }
 }
 
+/* The UID of the first port. */
+static void ports(void) {
+    static const uint8_t first[6] = {0x7F, 0xF0, 0xFF, 0xFF, 0xFF, 0xFE};
+    least();
+    memcpy(profile.binding_uid, first, sizeof first);
+    expect(24, "a binding UID", FELOSUMAY_DONE);
+    profile.binding_uid[5] = 0xFF;
+    expect(24, "a binding UID of every device of a maker", FELOSUMAY_BAD_PROFILE);
+    profile.binding_uid[0] = profile.binding_uid[1] = 0;
+    expect(24, "one of manufacturer 0", FELOSUMAY_BAD_PROFILE);
+    least()->boot_loader = profile.proxied_device = profile.newest_only = 255;
+    expect(24, "no binding UID", FELOSUMAY_DONE);
+}
+
 /* A choice, and what its things are called. */
 static void names(void) {
     static felosumay_choice choices[65];
@@ -410,5 +424,6 @@ int main(void) {
     names();
     locks();
     locked();
+    ports();
     return failed;
 }

@@ -29,6 +29,10 @@ const felosumay_profile PROFILE = {
     /* the usual times and workers of slow commands */
     {0, 0, 0, 0},
     {0, 0, 0, 0},
+    /* no boot loader, not behind a proxy, and every message of a change waits */
+    0, 0, 0,
     /* no names of choices, and no locks */
     NULL, 0, 0, {{0, 0}},
+    /* one port */
+    {0},
 };

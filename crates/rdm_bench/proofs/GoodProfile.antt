@@ -49,6 +49,7 @@ bench_can_be_made true subs few =
           opened = All-from_recursion (λ (d : ParameterDef). IsTrue (can_open own_numbers d)) own_numbers (refl, (refl, tt));
           held = All-from_recursion (λ (l : Lock). IsTrue (can_hold [] own_numbers l)) [] tt;
         };
+        binding = good.binding;
       },
     )
 bench_can_be_made false subs few = demo_can_be_made subs few

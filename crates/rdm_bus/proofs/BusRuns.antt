@@ -44,9 +44,9 @@ use Rattle.rdm_bus.specs.BusLaws.{message_in, dispensed, dispensed_by, recorded,
 use Rattle.rdm_collector.specs.Recording.{NoLossLaw}
 use Rattle.rdm_collector.specs.Polling as polling
 use Rattle.rdm_collector.specs.Polling.{IsReply, IsRun, given_between}
-use Rattle.rdm_collector.specs.Polling.Event.{Arrived as Enters, Polled}
+use Rattle.rdm_collector.specs.Polling.Event.{Arrived as Enters, Replaced, Polled}
 use Rattle.rdm_collector.proofs.PollingRuns.{laws_hold}
-use Rattle.rdm_bus.proofs.Queues.{queue_at, queue_still, command_still, within, heard_nothing, heard_frame, report_arrived, Changing, Says, Stays, value_changed, got_last, got_advisory, got_warning, got_error, polled, Poll, Unanswered, Answered, poll_becomes}
+use Rattle.rdm_bus.proofs.Queues.{queue_at, queue_still, command_still, within, heard_nothing, heard_frame, report_arrived, Changing, Says, Renews, Stays, value_changed, got_last, got_advisory, got_warning, got_error, polled, Poll, Unanswered, Answered, poll_becomes}
 use Rattle.rdm_bus.proofs.ReadBack.{message_read}
 use Rattle.rdm_collector.proofs.ReadBack.{read_as_itself}
 
@@ -199,10 +199,18 @@ small_arrival s r m kept is = record {
   recorded_is = refl;
 }
 
--- a change at the device's menu puts its message into the queue, where there is one
+-- a change at the device's menu puts its message into the queue, where there is one, or makes it wait in place of others
 small_changing : (s : Start) (change : Change) (message : Option Message) → Changing s.history change → IsSmall s (Changed change message ∷ [])
 small_changing s change message (Says m is) = record {
   polls = Enters (carried m) ∷ [];
+  run = (tt, tt);
+  queue = sym is;
+  unanswered = refl;
+  dispensed_is = refl;
+  recorded_is = refl;
+}
+small_changing s change message (Renews waiting is) = record {
+  polls = Replaced waiting ∷ [];
   run = (tt, tt);
   queue = sym is;
   unanswered = refl;

@@ -5,7 +5,7 @@ use Rattle.rdm_frame.specs.declared.message.Message.{Message}
 use Rattle.rdm_outbox.specs.Statuses.{status_message}
 use Rattle.rdm_bus.specs.Devices.{after_next, dequeues_again, forgets_empty_status, RightDeviceIsPolled, BreaksPrefixLaw}
 use Rattle.rdm_collector.specs.Polling.{IsRun, after}
-use Rattle.rdm_collector.specs.Polling.Event.{Arrived, Polled}
+use Rattle.rdm_collector.specs.Polling.Event.{Arrived, Replaced, Polled}
 use Rattle.rdm_collector.specs.Recording.{same_message}
 use Rattle.rdm_collector.proofs.Refusals.{skipping, repeating_an_older_one}
 
@@ -18,6 +18,7 @@ is_first (Some x) m other e = e
 pub right_device_is_polled : RightDeviceIsPolled
 right_device_is_polled q u [] run = tt
 right_device_is_polled q u (Arrived m ∷ es) run = (tt, right_device_is_polled (after q (Arrived m)) u es run)
+right_device_is_polled q u (Replaced waiting ∷ es) run = (tt, right_device_is_polled (after q (Replaced waiting)) u es run)
 right_device_is_polled q u (Polled again None heard ∷ es) (a, h, run) =
     ((a, h), subst (λ (v : Bool). IsRun q v es) (ap not (sym h)) (right_device_is_polled q true es run))
 right_device_is_polled q u (Polled true (Some m) heard ∷ es) (a, is, run) = ((a, is), right_device_is_polled q (not heard) es run)

@@ -1,9 +1,9 @@
 -- What each event makes of a device's queue.
-use Rattle.std.proofs.Common.{◌≡◌, ◌≢◌, ℕ, zero, suc, ◌+◌, ◌<◌, ◌≤◌, ◌==◌, ◌&&◌, min, Bool, true, false, cond, List, [], ◌∷◌, ◌++◌, length, map, Option, Some, None, refl, sym, ap, ◌∙◌, arith, inl, inr, length-append}
+use Rattle.std.proofs.Common.{◌≡◌, ◌≢◌, ℕ, zero, suc, ◌+◌, ◌<◌, ◌≤◌, ◌==◌, ◌&&◌, min, Bool, true, false, cond, List, [], ◌∷◌, ◌++◌, length, map, take, Option, Some, None, refl, sym, ap, ◌∙◌, arith, inl, inr, length-append}
 use Rattle.std.specs.Prelude.{slice_get, IfSome, unwrap_or, nat_lt}
 use Rattle.std.specs.List.{fold}
 use Rattle.std.proofs.lemmas.Bool.{cases_Bool, cond-true, cond-false, ltb-true, ltb-false}
-use Rattle.std.proofs.lemmas.List.{length-map, map-append, append_cancel_left}
+use Rattle.std.proofs.lemmas.List.{length-map, map-append, take-map, append_cancel_left}
 use Rattle.std.proofs.lemmas.Option.{slice_get_past}
 use Rattle.rdm_frame.specs.declared.uid.Uid.{Uid}
 use Rattle.rdm_frame.specs.declared.frame.Frame.{Frame}
@@ -29,22 +29,23 @@ use Rattle.rdm_params.specs.Jobs.Work.{worker_at}
 use Rattle.rdm_params.specs.Jobs.Commit.{committed}
 use Rattle.rdm_outbox.specs.Account as outbox
 use Rattle.rdm_outbox.specs.declared.job.Job.{Job}
-use Rattle.rdm_outbox.specs.Jobs.{has_room, next_job, after_arrive}
-use Rattle.rdm_outbox.specs.Messages.{is_last, last_or, last_of, next_of, after_next, after_post, after_drop, dispensed, after_dispense}
+use Rattle.rdm_outbox.specs.Jobs.{has_room, next_job, waiting_of, after_arrive}
+use Rattle.rdm_outbox.specs.Messages.{is_last, last_or, last_of, next_of, after_next, after_post, after_post_newest, in_place_of_same, after_drop, dispensed, after_dispense}
 use Rattle.rdm_outbox.specs.Statuses.{status_message, status_now, can_note}
+use Rattle.rdm_outbox.proofs.Newest.{gone_newest}
 use Rattle.rdm_responder.specs.declared.report.Report.{Report}
 use Rattle.rdm_responder.specs.declared.report.Arrival.{Arrival}
 use Rattle.rdm_responder.specs.History as history
 use Rattle.rdm_responder.specs.History.{History, Event, then_event}
 use Rattle.rdm_responder.specs.Requests.{Request, Ignored, Branch, Muting, Get, Set, request_of, request_in, discovery_of}
-use Rattle.rdm_responder.specs.Rules.{Account, Response, ack_message, account_of, account_before, account_after, account_with, after_message, after_entry, after_outcome, outbox_after, answer_to, answer_with, reply_with, message_count}
+use Rattle.rdm_responder.specs.Rules.{Account, Response, ack_message, account_of, account_before, account_after, account_with, newest_only, after_message, after_entry, after_outcome, outbox_after, answer_to, answer_with, reply_with, message_count}
 use Rattle.rdm_responder.specs.Runs.{IsArrival, IsChange, outbox_of}
 use Rattle.rdm_responder.proofs.Accounts.{account_of-then}
 use Rattle.rdm_collector.specs.Answers.{message_of}
 use Rattle.rdm_bus.specs.BusLaws.{carried, queue_of}
 use Rattle.rdm_collector.specs.Polling as polling
 use Rattle.rdm_collector.specs.Polling.{IsReply}
-use Rattle.rdm_collector.specs.Polling.Event.{Arrived, Polled}
+use Rattle.rdm_collector.specs.Polling.Event.{Arrived, Replaced, Polled}
 use Rattle.rdm_collector.specs.Requests as requests
 
 -- the queue of an account
@@ -164,15 +165,16 @@ outcome_still p b work (Failed severity id v1 v2) = entry_still p b _
 within_arrive : (b : outbox.Account) (worker : ℕ) (m : Message) → IsWithin b → IsWithin (after_arrive b worker m)
 within_arrive b worker m w = omega (arith, w, length-append b.arrived (m ∷ []))
 
-within_message : (b : outbox.Account) (message : Option Message) → IsWithin b → IsWithin (after_message b message)
-within_message b None w = w
-within_message b (Some m) w = omega (arith, w, length-append b.arrived (m ∷ []))
+within_message : (newest : Bool) (b : outbox.Account) (message : Option Message) → IsWithin b → IsWithin (after_message newest b message)
+within_message newest b None w = w
+within_message true b (Some m) w = gone_newest b m w
+within_message false b (Some m) w = omega (arith, w, length-append b.arrived (m ∷ []))
 
 within_event : (a : Account) (e : Event) → IsWithin a.outbox → IsWithin (account_after a e).outbox
 within_event a (history.Heard bytes) w = within_request a (request_in a.setup.uid (frame_in bytes)) w
 within_event a (history.Arrived r) w =
     within_still _ _ (outcome_still _ _ r.job.work r.outcome) (within_arrive a.outbox (worker_at a.outbox.workers r.job.work) (committed a.parameters r.job.work r.outcome) w)
-within_event a (history.Changed change) w = within_message a.outbox (change_message a.parameters change) w
+within_event a (history.Changed change) w = within_message (newest_only a.parameters) a.outbox (change_message a.parameters change) w
 within_event a (history.Placed sub pid bytes) w = w
 within_event a (history.Noted entry) w = within_still _ _ (entry_still a.parameters a.outbox entry) w
 within_event a (history.Restored image) w = w
@@ -227,34 +229,57 @@ arrival_says h r arrival is =
     (append_cancel_left (outbox_of h).arrived (arrival.message ∷ []) (said ∷ [])
     (sym is.message ∙ ap (λ (a : Account). a.outbox.arrived) (account_of-then h (history.Arrived r)) ∙ (report_still (account_of h) r).arrived))
 
--- What a change at the device's menu does to its queue: its message enters it, or there is none.
+-- What a change at the device's menu does to its queue: its message enters it, also in the place of one that waits and
+-- tells of the same, or there is none.
 pub data Changing (h : History) (change : Change) : Type 0 where
   Says : (m : Message) → queue_of (then_event h (history.Changed change)) ≡ polling.after (queue_of h) (Arrived (carried m)) → Changing h change
+  Renews : (waiting : List Message) → queue_of (then_event h (history.Changed change)) ≡ polling.after (queue_of h) (Replaced waiting) → Changing h change
   Stays : queue_of (then_event h (history.Changed change)) ≡ queue_of h → Changing h change
 
-changed_to : (h : History) (change : Change) → queue_of (then_event h (history.Changed change)) ≡ queue_at (after_message (outbox_of h) (change_message (account_of h).parameters change))
+changed_to : (h : History) (change : Change) → queue_of (then_event h (history.Changed change)) ≡ queue_at (after_message (newest_only (account_of h).parameters) (outbox_of h) (change_message (account_of h).parameters change))
 changed_to h change = ap (λ (a : Account). queue_at a.outbox) (account_of-then h (history.Changed change))
 
-changing_by : (h : History) (change : Change) (message : Option Message) → change_message (account_of h).parameters change ≡ message → Changing h change
-changing_by h change (Some m) e =
-    Says m (changed_to h change ∙ ap (λ (o : Option Message). queue_at (after_message (outbox_of h) o)) e ∙ arrived_is (outbox_of h) (after_post (outbox_of h) m) m refl refl refl)
-changing_by h change None e = Stays (changed_to h change ∙ ap (λ (o : Option Message). queue_at (after_message (outbox_of h) o)) e)
+-- what waits once a message has taken the place of one that tells of the same
+abbrev pub renewed : outbox.Account → Message → List Message
+renewed b m = map carried (in_place_of_same m (waiting_of b))
+
+renewed_is : (b : outbox.Account) (m : Message) → queue_at (after_post_newest b m) ≡ polling.after (queue_at b) (Replaced (renewed b m))
+renewed_is b m =
+    ap (λ (ms : List Message). record (queue_at b) { arrived = ms })
+    (map-append carried (take b.gone b.arrived) (in_place_of_same m (waiting_of b)) ∙ ap (λ (ms : List Message). ms ++ renewed b m) (sym (take-map carried b.gone b.arrived)))
+
+changing_by : (h : History) (change : Change) (newest : Bool) (message : Option Message) → newest_only (account_of h).parameters ≡ newest → change_message (account_of h).parameters change ≡ message → Changing h change
+changing_by h change true (Some m) n e =
+    Renews (renewed (outbox_of h) m)
+    (changed_to h change ∙ ap (λ (b : Bool). queue_at (after_message b (outbox_of h) (change_message (account_of h).parameters change))) n
+    ∙ ap (λ (o : Option Message). queue_at (after_message true (outbox_of h) o)) e ∙ renewed_is (outbox_of h) m)
+changing_by h change false (Some m) n e =
+    Says m
+    (changed_to h change ∙ ap (λ (b : Bool). queue_at (after_message b (outbox_of h) (change_message (account_of h).parameters change))) n
+    ∙ ap (λ (o : Option Message). queue_at (after_message false (outbox_of h) o)) e ∙ arrived_is (outbox_of h) (after_post (outbox_of h) m) m refl refl refl)
+changing_by h change newest None n e =
+    Stays (changed_to h change ∙ ap (λ (o : Option Message). queue_at (after_message (newest_only (account_of h).parameters) (outbox_of h) o)) e)
 
 pub value_changed : (h : History) (change : Change) → Changing h change
-value_changed h change = changing_by h change (change_message (account_of h).parameters change) refl
+value_changed h change = changing_by h change (newest_only (account_of h).parameters) (change_message (account_of h).parameters change) refl refl
 
 -- the queue after a change whose message, if there is one, is this
-abbrev after_told : History → Option Message → polling.Queue
-after_told h None = queue_of h
-after_told h (Some m) = polling.after (queue_of h) (Arrived (carried m))
+abbrev pub after_told : Bool → History → Option Message → polling.Queue
+after_told newest h None = queue_of h
+after_told true h (Some m) = polling.after (queue_of h) (Replaced (renewed (outbox_of h) m))
+after_told false h (Some m) = polling.after (queue_of h) (Arrived (carried m))
 
-posted_is : (h : History) (message : Option Message) → queue_at (after_message (outbox_of h) message) ≡ after_told h message
-posted_is h None = refl
-posted_is h (Some m) = arrived_is (outbox_of h) (after_post (outbox_of h) m) m refl refl refl
+posted_is : (newest : Bool) (h : History) (message : Option Message) → queue_at (after_message newest (outbox_of h) message) ≡ after_told newest h message
+posted_is newest h None = refl
+posted_is true h (Some m) = renewed_is (outbox_of h) m
+posted_is false h (Some m) = arrived_is (outbox_of h) (after_post (outbox_of h) m) m refl refl refl
 
-pub change_told : (h : History) (change : Change) (message : Option Message) → IsChange h change message → queue_of (then_event h (history.Changed change)) ≡ after_told h message
-change_told h change message is =
-    changed_to h change ∙ ap (λ (o : Option Message). queue_at (after_message (outbox_of h) o)) (sym is.message_is) ∙ posted_is h message
+pub change_told : (h : History) (change : Change) (newest : Bool) (message : Option Message) → newest_only (account_of h).parameters ≡ newest → IsChange h change message → queue_of (then_event h (history.Changed change)) ≡ after_told newest h message
+change_told h change newest message n is =
+    changed_to h change
+    ∙ ap (λ (b : Bool). queue_at (after_message b (outbox_of h) (change_message (account_of h).parameters change))) n
+    ∙ ap (λ (o : Option Message). queue_at (after_message newest (outbox_of h) o)) (sym is.message_is)
+    ∙ posted_is newest h message
 
 -- ---- a poll
 

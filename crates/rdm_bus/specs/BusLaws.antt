@@ -48,7 +48,8 @@ recorded events = flat_map recorded_by events
 abbrev pub carried : Message → Message
 carried m = record m { pid = m.pid % 65536; sub = m.sub % 65536 }
 
--- The device's queue: the messages that arrived in it, how many of them were given, and its last answer.
+-- The device's queue: the messages that arrived in it, without those that a newer one replaced while they waited, how many
+-- of them were given, and its last answer.
 abbrev pub queue_of : History → Queue
 queue_of h =
     record { arrived = map carried (outbox_of h).arrived; given = (outbox_of h).gone; last = carried (last_of (outbox_of h)) }

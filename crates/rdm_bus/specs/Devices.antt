@@ -3,7 +3,7 @@ use Rattle.std.specs.Prelude.{◌≡◌, ◌+◌, min, Bool, true, false, not, L
 use Rattle.rdm_frame.specs.declared.message.Message.{Message}
 use Rattle.rdm_outbox.specs.Statuses.{status_message}
 use Rattle.rdm_collector.specs.Polling.{Queue, Event, IsRun, after, unanswered_after, dispensed, recorded}
-use Rattle.rdm_collector.specs.Polling.Event.{Arrived, Polled}
+use Rattle.rdm_collector.specs.Polling.Event.{Arrived, Replaced, Polled}
 use Rattle.rdm_collector.specs.Recording.{PrefixLaw}
 
 -- What a device replies to a poll, which asks for the last message again or doesn't, and its queue afterwards.
@@ -41,6 +41,7 @@ forgets_empty_status = record {
 abbrev pub IsRunOf : Device → Queue → Bool → List Event → Type 0
 IsRunOf d q unanswered [] = Unit {0}
 IsRunOf d q unanswered (Arrived m ∷ es) = IsRunOf d (after q (Arrived m)) unanswered es
+IsRunOf d q unanswered (Replaced waiting ∷ es) = IsRunOf d (after q (Replaced waiting)) unanswered es
 IsRunOf d q unanswered (Polled again None heard ∷ es) = (again ≡ unanswered) × (heard ≡ false) × IsRunOf d q true es
 IsRunOf d q unanswered (Polled again (Some m) heard ∷ es) =
     (again ≡ unanswered) × (m ≡ d.reply q again) × IsRunOf d (d.queue q again) (not heard) es

@@ -112,7 +112,8 @@ pub record Headline (start : Start) (steps : List Step) (handed : List Handed) (
   pub of_the_steps : IsBusRun start steps events
   -- Each reply is the one that the reply rules give;
   pub each_reply : RepliesAreByTheRules start events
-  -- each accepted job's result enters the queue: each that was handed in has arrived, and its message waits there,
+  -- each accepted job's result enters the queue: each that was handed in has arrived, and its message waits there, until it
+  -- is given or the newer message of a change replaces it, where the profile asks for the newest only and both tell of the same,
   pub enters : reports_in events ≡ results_in handed
   pub in_the_queue : KeepsMessages start events
   -- at most once,

@@ -83,7 +83,9 @@ pub fn jobs_are_numbered()
 {}
 
 /// In every run what a device gave from its queue, followed by what waits, is what waited at first, followed by what entered
-/// since: each message is given once, in order of arrival (E1.20 section 10.3.1).
+/// since: each message is given once, in order of arrival (E1.20 section 10.3.1). Where the profile asks for the newest
+/// message of a change only, that is so at each event, but that such a message may stand in the place of one that waited and
+/// tells of the same.
 pub fn messages_are_kept()
     ensures { KeepingHolds }
 {

@@ -6,13 +6,14 @@ use Rattle.rdm_profile.specs.declared.profile.locks.Lock.{Lock}
 use Rattle.rdm_profile.specs.declared.profile.own.ParameterDef.{ParameterDef}
 use Rattle.rdm_profile.specs.declared.profile.particulars.Particular.{Particular}
 use Rattle.rdm_profile_rules.specs.declared.faults.ProfileFault.{ProfileFault}
-use Rattle.rdm_profile_rules.specs.declared.faults.ProfileFault.TheVariants.{SubDevices, Presets, Personalities, Start, RootFootprint, SubFootprint, Languages, TestNumber, TwinTests, TwinStatusTexts, LeftOut, LeftOutNeeded, ParameterCount, ParameterPid, ParameterLimits, ParameterStart, ParameterOrder, ParameterFields, ParameterStandard, ParameterNames, ParameterLocks, ParameterLockState, ParameterLocked}
-use Rattle.rdm_profile_rules.specs.Faults.{Keeps, KeepsBefore, KeepsLeftOut, KeepsOwn, IsFirstBroken, with_parameters}
+use Rattle.rdm_profile_rules.specs.declared.faults.ProfileFault.TheVariants.{SubDevices, Presets, Personalities, Start, RootFootprint, SubFootprint, Languages, TestNumber, TwinTests, TwinStatusTexts, LeftOut, LeftOutNeeded, ParameterCount, ParameterPid, ParameterLimits, ParameterStart, ParameterOrder, ParameterFields, ParameterStandard, ParameterNames, ParameterLocks, ParameterLockState, ParameterLocked, BindingUid}
+use Rattle.rdm_profile_rules.specs.Faults.{Keeps, KeepsBefore, KeepsLeftOut, KeepsOwn, KeepsParameters, IsFirstBroken, with_parameters}
 use Rattle.rdm_profile.specs.Profiles.{Agree, AreGoodLocks, AreGoodParameters, CanBeMade, CanHold, CanOpen, HaveStates}
 use Rattle.std.proofs.lemmas.List.Elements.{All-from_recursion}
 use Rattle.rdm_profile.specs.Locks.{can_hold}
+use Rattle.rdm_profile.specs.MuteReply.{can_bind}
 use Rattle.rdm_profile.proofs.DemoLemmas.{none_good, none_locked}
-use Rattle.rdm_profile_rules.proofs.FirstFaults.{keeps_others, made}
+use Rattle.rdm_profile_rules.proofs.FirstFaults.{keeps_before, keeps_others, made}
 use Rattle.rdm_c.specs.Parameters.{HasOwn}
 
 -- no lock is one that can't hold
@@ -20,34 +21,35 @@ none_held : (without : List ℕ) → CanHold without [] []
 none_held without = All-from_recursion (λ (l : Lock). IsTrue (can_hold without [] l)) [] tt
 
 -- the first rule that a profile breaks without parameters of the maker's own and locks is the first that it breaks with what sets it apart
-pub still_first : (f : ProfileFault) (p : Profile) (x : Particular) → p.particulars.locks ≡ [] → IsFirstBroken f (with_parameters p x.more_slots x.without.items [] []) → IsFirstBroken f (record p { particulars = x })
-still_first SubDevices p x none h = h
-still_first Presets p x none h = h
-still_first Personalities p x none h = h
-still_first Start p x none h = h
-still_first RootFootprint p x none h = h
-still_first SubFootprint p x none h = h
-still_first Languages p x none h = h
-still_first TestNumber p x none h = h
-still_first TwinTests p x none h = h
-still_first TwinStatusTexts p x none h = h
-still_first LeftOut p x none h = h
-still_first LeftOutNeeded p x none h = h
-still_first ParameterCount p x none h = absurd (h.1 none_good.count)
-still_first ParameterPid p x none h = absurd (h.1 none_good.pids)
-still_first ParameterLimits p x none h = absurd (h.1 none_good.limits)
-still_first ParameterStart p x none h = absurd (h.1 none_good.starts)
-still_first ParameterOrder p x none h = absurd (h.1 none_good.ascending)
-still_first ParameterFields p x none h = absurd (h.1 none_good.fields)
-still_first ParameterStandard p x none h = absurd (h.1 none_good.standards)
-still_first ParameterNames p x none h = absurd (h.1 none_good.agree)
-still_first ParameterLocks p x none h = absurd (h.1 (subst (λ (ls : List Lock). HaveStates [] ls) (sym none) none_locked.states))
-still_first ParameterLockState p x none h = absurd (h.1 none_locked.opened)
-still_first ParameterLocked p x none h = absurd (h.1 (subst (λ (ls : List Lock). CanHold x.without.items [] ls) (sym none) (none_held x.without.items)))
+pub still_first : (f : ProfileFault) (p : Profile) (x : Particular) → p.particulars.locks ≡ [] → IsTrue (can_bind p.particulars.mute_reply.binding) → IsFirstBroken f (with_parameters p x.more_slots x.without.items [] []) → IsFirstBroken f (record p { particulars = x })
+still_first SubDevices p x none binds h = h
+still_first Presets p x none binds h = h
+still_first Personalities p x none binds h = h
+still_first Start p x none binds h = h
+still_first RootFootprint p x none binds h = h
+still_first SubFootprint p x none binds h = h
+still_first Languages p x none binds h = h
+still_first TestNumber p x none binds h = h
+still_first TwinTests p x none binds h = h
+still_first TwinStatusTexts p x none binds h = h
+still_first LeftOut p x none binds h = h
+still_first LeftOutNeeded p x none binds h = h
+still_first ParameterCount p x none binds h = absurd (h.1 none_good.count)
+still_first ParameterPid p x none binds h = absurd (h.1 none_good.pids)
+still_first ParameterLimits p x none binds h = absurd (h.1 none_good.limits)
+still_first ParameterStart p x none binds h = absurd (h.1 none_good.starts)
+still_first ParameterOrder p x none binds h = absurd (h.1 none_good.ascending)
+still_first ParameterFields p x none binds h = absurd (h.1 none_good.fields)
+still_first ParameterStandard p x none binds h = absurd (h.1 none_good.standards)
+still_first ParameterNames p x none binds h = absurd (h.1 none_good.agree)
+still_first ParameterLocks p x none binds h = absurd (h.1 (subst (λ (ls : List Lock). HaveStates [] ls) (sym none) none_locked.states))
+still_first ParameterLockState p x none binds h = absurd (h.1 none_locked.opened)
+still_first ParameterLocked p x none binds h = absurd (h.1 (subst (λ (ls : List Lock). CanHold x.without.items [] ls) (sym none) (none_held x.without.items)))
+still_first BindingUid p x none binds h = absurd (h.1 binds)
 
-pub still_first_if : (result : Option ProfileFault) (p : Profile) (x : Particular) → p.particulars.locks ≡ [] → IfSome result (λ f. IsFirstBroken f (with_parameters p x.more_slots x.without.items [] [])) → IfSome result (λ f. IsFirstBroken f (record p { particulars = x }))
-still_first_if None p x none h = tt
-still_first_if (Some f) p x none h = still_first f p x none h
+pub still_first_if : (result : Option ProfileFault) (p : Profile) (x : Particular) → p.particulars.locks ≡ [] → IsTrue (can_bind p.particulars.mute_reply.binding) → IfSome result (λ f. IsFirstBroken f (with_parameters p x.more_slots x.without.items [] [])) → IfSome result (λ f. IsFirstBroken f (record p { particulars = x }))
+still_first_if None p x none binds h = tt
+still_first_if (Some f) p x none binds h = still_first f p x none binds h
 
 -- if it breaks none without them, it keeps the rules that don't speak of them
 pub keeps_left_out : (p : Profile) (x : Particular) → CanBeMade (with_parameters p x.more_slots x.without.items [] []) → KeepsLeftOut (record p { particulars = x })
@@ -55,10 +57,19 @@ keeps_left_out p x can =
     let left_out = can.1.without in
     (keeps_others p x.more_slots x.without.items [] [] can, left_out.optional, left_out.needs)
 
--- a device can be made with a profile that keeps these, and whose parameters of the maker's own are good, with their names and locks
-pub made_with : (p : Profile) → KeepsLeftOut p → AreGoodParameters p.particulars.own p.particulars.choices × AreGoodLocks p.particulars.without.items p.particulars.own p.particulars.locks → CanBeMade p
-made_with p h good =
-    made p p.particulars.more_slots p.particulars.without.items p.particulars.own p.particulars.choices h.0 (record { optional = h.1; needs = h.2 }, good.0, good.1)
+-- the parameters of the maker's own are good, with their names and locks
+abbrev pub HasGoodOwn : Profile → Type 0
+HasGoodOwn p = AreGoodParameters p.particulars.own p.particulars.choices × AreGoodLocks p.particulars.without.items p.particulars.own p.particulars.locks
+
+-- a device can be made with a profile that keeps these, whose parameters are good, and whose binding UID is that of one port
+pub made_with : (p : Profile) → KeepsLeftOut p → HasGoodOwn p → IsTrue (can_bind p.particulars.mute_reply.binding) → CanBeMade p
+made_with p h good binds =
+    made p p.particulars.more_slots p.particulars.without.items p.particulars.own p.particulars.choices h.0 (record { optional = h.1; needs = h.2 }, good.0, good.1) binds
+
+-- the rules before that of the binding UID
+pub before_binding : (p : Profile) → KeepsLeftOut p → HasGoodOwn p → KeepsParameters p
+before_binding p h good =
+    keeps_before p p.particulars.more_slots p.particulars.without.items p.particulars.own p.particulars.choices h.0 (record { optional = h.1; needs = h.2 }, good.0, good.1)
 
 -- parameters of the maker's own are good exactly if they keep the rules that speak of them, and their names are those of their choices
 pub good_own : (ds : List ParameterDef) (cs : List ChoiceName) → KeepsOwn ds → Agree ds cs → AreGoodParameters ds cs
@@ -135,3 +146,4 @@ keeps_each ParameterNames p can = can.1.own.agree
 keeps_each ParameterLocks p can = can.1.locks.states
 keeps_each ParameterLockState p can = can.1.locks.opened
 keeps_each ParameterLocked p can = can.1.locks.held
+keeps_each BindingUid p can = can.1.binding

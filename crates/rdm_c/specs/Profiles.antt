@@ -1,6 +1,8 @@
 -- The profile that a plain struct of C's stands for, and three lists that lie outside of it: the parameters of the maker's own, the PIDs
 -- of those that are left out, and the names of choices. A count that is greater than its array stands for the whole array.
-use Rattle.std.specs.Prelude.{ℕ, List, [], ◌==◌, not, map, take, if◌then◌else◌}
+use Rattle.std.specs.Prelude.{ℕ, ◌&&◌, List, [], ◌==◌, not, map, take, Option, Some, None, if◌then◌else◌}
+use Rattle.rdm_frame.specs.declared.uid.Uid.{Uid}
+use Rattle.rdm_frame.specs.Reading.{uid_at}
 use Rattle.rdm_profile.specs.declared.profile.Personality.{Personality}
 use Rattle.rdm_profile.specs.declared.profile.Profile.{Profile}
 use Rattle.rdm_profile.specs.declared.profile.SelfTest.{SelfTest}
@@ -9,6 +11,7 @@ use Rattle.rdm_profile.specs.declared.profile.Slot.{Slot}
 use Rattle.rdm_profile.specs.declared.profile.StatusText.{StatusText}
 use Rattle.rdm_profile.specs.declared.profile.Unit.{Unit as DeviceUnit}
 use Rattle.rdm_profile.specs.declared.profile.estimates.Estimates.{Estimates}
+use Rattle.rdm_profile.specs.declared.profile.mute_reply.MuteReply.{MuteReply}
 use Rattle.rdm_profile.specs.declared.profile.particulars.Particular.{Particular}
 use Rattle.rdm_profile.specs.declared.profile.workers.Worker.{Worker}
 use Rattle.rdm_profile.specs.declared.profile.workers.Worker.TheVariants.{First, Second}
@@ -80,6 +83,18 @@ workers_in ws = record {
   sensor = worker_or ws.sensor usual_workers.sensor;
 }
 
+-- the UID that stands in six slots, or none if they are zeros. E1.20 section 7.6.
+abbrev pub binding_in : List ℕ → Option Uid
+binding_in slots = if ((uid_at slots 0).maker == 0) && ((uid_at slots 0).device == 0) then None else Some (uid_at slots 0)
+
+-- what is told when the device is muted or un-muted
+abbrev pub mute_reply_in : ProfileNumbers → MuteReply
+mute_reply_in p = record {
+  proxied_device = not (p.proxied_device == 0);
+  boot_loader = not (p.boot_loader == 0);
+  binding = binding_in p.binding_uid;
+}
+
 abbrev pub unit_in : UnitNumbers → DeviceUnit
 unit_in u = record {
   model = u.model;
@@ -120,6 +135,8 @@ particular_in p parameters without choices = record {
   without = record { items = without };
   more_slots = p.more_slots;
   estimates = estimates_in p.estimates;
+  mute_reply = mute_reply_in p;
+  newest_only = not (p.newest_only == 0);
 }
 
 -- the profile of the struct and of the three lists

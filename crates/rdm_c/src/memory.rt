@@ -46,7 +46,7 @@ const _: () = prove!(size_of::<Message>() == MESSAGE);
 const _: () = prove!(size_of::<Endpoint>() == RESPONDER);
 
 // What the header's macros say of what few profiles have.
-const _: () = prove!(size_of::<Particular>() == 144);
+const _: () = prove!(size_of::<Particular>() == 160);
 
 const _: () = prove!(size_of::<Vec<ParameterDef>>() == 24);
 

@@ -2,6 +2,7 @@
 
 mod lists;
 pub(crate) mod making;
+mod muting;
 pub(crate) mod parameters;
 pub(crate) mod slow;
 
@@ -172,6 +173,13 @@ pub struct ProfileNumbers {
     pub estimates: EstimatesNumbers,
     /// Which worker carries out which of them.
     pub workers: WorkersNumbers,
+    /// Whether it can do nothing until firmware is uploaded to it: 0 if it can (section 7.6).
+    pub boot_loader: u8,
+    /// Whether a proxy answers for it: 0 if it answers for itself (section 7.6).
+    pub proxied_device: u8,
+    /// Whether the message of a change at the menu takes the place of one that still waits and tells of the same parameter: 0 if each
+    /// waits.
+    pub newest_only: u8,
     /// Where the names lie of the things of which parameters let choose one.
     pub choices: *const ChoiceNumbers,
     /// How many there are.
@@ -180,6 +188,8 @@ pub struct ProfileNumbers {
     pub lock_count: u8,
     /// Which parameters the lock states keep from being set.
     pub locks: [LockNumbers; 64],
+    /// The UID of its first port, if it has several, each with a UID of its own: six zeros if it has one port (section 7.6).
+    pub binding_uid: [u8; 6],
 }
 
 impl TextNumbers {

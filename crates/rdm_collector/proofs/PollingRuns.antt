@@ -7,7 +7,7 @@ use Rattle.std.proofs.lemmas.List.{append-nil, drop_all, take_more, take_all, ta
 use Rattle.std.proofs.lemmas.Option.{slice_get-get_or}
 use Rattle.rdm_frame.specs.declared.message.Message.{Message}
 use Rattle.rdm_collector.specs.Polling.{Queue, Event, IsNext, IsReply, IsRun, after, unanswered_after, dispensed, dispensed_by, recorded, recorded_by, given_between, LawsHold}
-use Rattle.rdm_collector.specs.Polling.Event.{Arrived, Polled}
+use Rattle.rdm_collector.specs.Polling.Event.{Arrived, Replaced, Polled}
 use Rattle.rdm_collector.proofs.Kept.{Kept, Kept-before, Kept-unheard, Kept-again_unrecorded, Kept-again, Kept-status_unrecorded, Kept-status, Kept-given_unrecorded, Kept-given, Kept-prefix, Kept-no_loss}
 
 -- the queue may have come from this start
@@ -20,6 +20,12 @@ record IsPast (start q : Queue) : Type 0 where
 -- a message that enters the queue hasn't left it
 given-arrived : (start q : Queue) (m : Message) → IsPast start q → given_between start (after q (Arrived m)) ≡ given_between start q
 given-arrived start q m past = let within : q.given ≤ length q.arrived = past.within in ap (drop start.given) (take-append-le q.given q.arrived (m ∷ []) within)
+
+-- nor have those that are replaced, nor those that take their place
+given-replaced : (start q : Queue) (waiting : List Message) → IsPast start q → given_between start (after q (Replaced waiting)) ≡ given_between start q
+given-replaced start q waiting past =
+    let front : q.given ≤ length (take q.given q.arrived) = omega (arith, past.within, length-take q.given q.arrived) in
+    ap (drop start.given) (take-append-le q.given (take q.given q.arrived) waiting front ∙ take_all q.given (take q.given q.arrived) (omega (arith, length-take q.given q.arrived)))
 
 -- the first message that waits leaves the queue
 given-next : (start q : Queue) (m : Message) → IsPast start q → q.given < length q.arrived → IfSome (slice_get q.arrived q.given) (λ next. m ≡ next) → drop start.given (take (min (q.given + 1) (length q.arrived)) q.arrived) ≡ given_between start q ++ m ∷ []
@@ -69,6 +75,9 @@ polled start q false (Some m) heard d r past k h = fresh start q d r m heard pas
 next : (start q : Queue) (u : Bool) (d r : List Message) (e : Event) → IsPast start q → Kept u q.last d r (given_between start q) → IsNext q u e → KeptAfter start q u d r e
 next start q u d r (Arrived m) past k h =
     (record { since = past.since; within = omega (arith, past.within, length-append q.arrived (m ∷ [])) }, rw (append-nil d, append-nil r, given-arrived start q m past) k)
+next start q u d r (Replaced waiting) past k h =
+    let behind : q.given ≤ length (take q.given q.arrived ++ waiting) = omega (arith, past.within, length-take q.given q.arrived, length-append (take q.given q.arrived) waiting) in
+    (record { since = past.since; within = behind }, rw (append-nil d, append-nil r, given-replaced start q waiting past) k)
 next start q u d r (Polled again reply heard) past k h =
     let P : Bool → Type 0 = λ v. Kept v q.last d r (given_between start q) in
     polled start q again reply heard d r past (subst P (sym h.0) k) h.1

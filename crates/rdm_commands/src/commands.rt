@@ -32,7 +32,7 @@ mod thresholds;
 use crate::{Answer, Ask, Changed, Verdict, Work};
 pub(crate) use blocks::DMX_BLOCK_ADDRESS;
 use rdm_device::columns::added as own_parameters;
-use rdm_device::{Argument, CommonValues, Place, Profile, RootValues, Value};
+use rdm_device::{Argument, CommonValues, MuteReply, Place, Profile, RootValues, Value};
 use rdm_frame::standard::SUB_DEVICE_ALL_CALL;
 use rdm_frame::{Body, Nack};
 use rdm_table::{
@@ -85,6 +85,13 @@ impl Devices {
         ensures { result ≡ length self.now.subs }
     {
         self.subs.len()
+    }
+
+    /// What the profile says that is told when it is muted or un-muted (E1.20 section 7.6).
+    pub fn mute_reply(&self) -> MuteReply
+        ensures { result ≡ self.now.profile.particulars.mute_reply }
+    {
+        self.profile.particulars.mute_reply()
     }
 
     /// What a GET answers: the value, the job that it starts, or the first reason to reject it.

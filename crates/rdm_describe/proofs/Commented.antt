@@ -12,7 +12,7 @@ use Rattle.rdm_fixture.specs.declared.fixture.Fixture.{Fixture}
 use Rattle.rdm_fixture.specs.Describes.{Describes}
 use Rattle.rdm_describe.specs.declared.answers.Answer.{Answer}
 use Rattle.rdm_describe.specs.declared.notes.Note.{Note}
-use Rattle.rdm_describe.specs.Comments.{IsFileOf, comment, comments, heading, heading_words, note_words, unasked_words, untold_words}
+use Rattle.rdm_describe.specs.Comments.{IsFileOf, comment, comments, heading, heading_words, note_words, unasked_words, unmuted_words, untold_words}
 use Rattle.rdm_describe.specs.Texts.{is_printable, printed}
 
 -- ---- what is skipped
@@ -124,9 +124,11 @@ both_skipped a b rest of_a of_b = ap (λ (text : List ℕ). skip_blank text) (ap
 
 heading_skipped : (uid : Uid) (rest : List ℕ) → skip_blank (heading uid ++ rest) ≡ skip_blank rest
 heading_skipped uid rest =
-    both_skipped (comment (heading_words uid) ++ comment untold_words) (comment unasked_words) rest
-    (λ r. both_skipped (comment (heading_words uid)) (comment untold_words) r (comment_skipped (heading_words uid)) (comment_skipped untold_words))
-    (comment_skipped unasked_words)
+    both_skipped (comment (heading_words uid) ++ comment untold_words ++ comment unasked_words) (comment unmuted_words) rest
+    (λ r. both_skipped (comment (heading_words uid) ++ comment untold_words) (comment unasked_words) r
+    (λ s. both_skipped (comment (heading_words uid)) (comment untold_words) s (comment_skipped (heading_words uid)) (comment_skipped untold_words))
+    (comment_skipped unasked_words))
+    (comment_skipped unmuted_words)
 
 all_skipped : (uid : Uid) (answers : List Answer) (notes : List Note) (rest : List ℕ) → skip_blank (comments uid answers notes ++ rest) ≡ skip_blank rest
 all_skipped uid answers notes rest =

@@ -115,10 +115,14 @@ untold_words = codes "how jobs end (outcome), who has them (workers), how long S
 
 abbrev pub unasked_words : List ℕ
 unasked_words =
-    codes "FACTORY_DEFAULTS resets, how many presets there are without PRESET_INFO, self tests above 32, status IDs above 0x801F."
+    codes "FACTORY_DEFAULTS resets, how many presets there are without PRESET_INFO, self tests above 32, status IDs above 0x801F,"
+
+abbrev pub unmuted_words : List ℕ
+unmuted_words =
+    codes "what DISC_MUTE tells (binding_uid, boot_loader, proxied_device), whether newer messages replace older ones (newest_only)."
 
 abbrev pub heading : Uid → List ℕ
-heading uid = comment (heading_words uid) ++ comment untold_words ++ comment unasked_words
+heading uid = comment (heading_words uid) ++ comment untold_words ++ comment unasked_words ++ comment unmuted_words
 
 -- the notes, a comment each
 abbrev pub comments : Uid → List Answer → List Note → List ℕ

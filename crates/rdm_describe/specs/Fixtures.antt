@@ -1,8 +1,9 @@
 -- The fixture of a file that stands in for the one that answered. What answers can't tell is as a file has it that says nothing.
-use Rattle.std.specs.Prelude.{ℕ, List, [], take}
+use Rattle.std.specs.Prelude.{ℕ, false, List, [], take}
 use Rattle.rdm_profile.specs.declared.profile.Profile.{Profile}
 use Rattle.rdm_profile.specs.declared.profile.estimates.Estimates.{Estimates}
 use Rattle.rdm_profile.specs.declared.profile.particulars.Particular.{Particular}
+use Rattle.rdm_profile.specs.MuteReply.{plain_reply}
 use Rattle.rdm_profile.specs.Workers.{usual_workers}
 use Rattle.rdm_frame.specs.declared.uid.Uid.{Uid}
 use Rattle.rdm_fixture.specs.declared.fixture.Fixture.{Fixture}
@@ -27,6 +28,8 @@ particular_of answers = record {
   without = record { items = take 36 (without_of answers) };
   more_slots = more_slots_of answers;
   estimates = estimates_with (sensor_estimate answers);
+  mute_reply = plain_reply;
+  newest_only = false;
 }
 
 abbrev pub profile_of : List Answer → Profile

@@ -112,7 +112,11 @@ fn put_heading(alloc: Global, uid: Uid, text: &mut Vec<u8>) -> Result<(), AllocE
         text,
     )?;
     put_comment(
-        b"FACTORY_DEFAULTS resets, how many presets there are without PRESET_INFO, self tests above 32, status IDs above 0x801F.",
+        b"FACTORY_DEFAULTS resets, how many presets there are without PRESET_INFO, self tests above 32, status IDs above 0x801F,",
+        text,
+    )?;
+    put_comment(
+        b"what DISC_MUTE tells (binding_uid, boot_loader, proxied_device), whether newer messages replace older ones (newest_only).",
         text,
     )
 }

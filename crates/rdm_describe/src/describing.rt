@@ -18,7 +18,8 @@ use crate::texts::text_of;
 use crate::units::{personalities_of, sub_count, sub_of, unit_of};
 use arrayvec::ArrayVec;
 use rdm_device::{
-    ChoiceNames, Estimates, Locks, OwnParameters, Particular, Particulars, Profile, Workers,
+    ChoiceNames, Estimates, Locks, MuteReply, OwnParameters, Particular, Particulars, Profile,
+    Workers,
 };
 use rdm_fixture::{Fixture, Starting, no_courses};
 use rdm_frame::Uid;
@@ -117,6 +118,8 @@ fn particulars_of(alloc: Global, answers: &[Answer]) -> Result<Particulars, Allo
         without: first_of(without),
         more_slots: more_slots_of(answers, personalities.as_slice()),
         estimates: estimates_with(sensor),
+        mute_reply: MuteReply::plain(),
+        newest_only: false,
     };
     Particulars::of(alloc, particular)
 }

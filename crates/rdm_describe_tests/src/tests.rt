@@ -99,7 +99,8 @@ fn file(alloc: Global, rows: &[Row]) -> Result<String, Fail> {
 const HEADING: &str = "\
 # What 7FF0:00000040 answered on a line. No answer tells these, which can be written here by hand:
 # how jobs end (outcome), who has them (workers), how long SETs take (estimates), what lock states lock (lock), what
-# FACTORY_DEFAULTS resets, how many presets there are without PRESET_INFO, self tests above 32, status IDs above 0x801F.
+# FACTORY_DEFAULTS resets, how many presets there are without PRESET_INFO, self tests above 32, status IDs above 0x801F,
+# what DISC_MUTE tells (binding_uid, boot_loader, proxied_device), whether newer messages replace older ones (newest_only).
 ";
 
 /// Whether a text has these words.

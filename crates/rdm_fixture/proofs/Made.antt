@@ -1,19 +1,23 @@
 -- A device can be made with each profile that a table says.
-use Rattle.std.proofs.Common.{◌≡◌, ℕ, ◌+◌, ◌<◌, ◌≤◌, min, pos, negsuc, Bool, true, false, if◌then◌else◌, List, [], ◌∷◌, length, Option, Some, None, All, IsTrue, refl, sym, ap, ◌∙◌, arith, codes}
+use Rattle.std.proofs.Common.{◌≡◌, ℕ, ◌+◌, ◌<◌, ◌≤◌, min, pos, negsuc, Bool, true, false, if◌then◌else◌, List, [], ◌∷◌, length, Option, Some, None, All, IsTrue, option_map, option_and_then, not, refl, sym, ap, ◌∙◌, arith, codes}
 use Rattle.std.specs.Prelude.{unwrap_or}
 use Rattle.std.proofs.lemmas.Bool.{and_parts, leb-true}
 use Rattle.std.proofs.lemmas.Option.{same_Some}
 use Rattle.std.proofs.lemmas.List.Elements.{All-cons}
+use Rattle.rdm_frame.specs.declared.uid.Uid.{Uid}
+use Rattle.rdm_frame.specs.Addressing.{is_broadcast}
+use Rattle.rdm_frame.specs.DigitReading.{uid_in}
 use Rattle.rdm_profile.specs.declared.profile.Personality.{Personality}
 use Rattle.rdm_profile.specs.declared.profile.Profile.{Profile}
 use Rattle.rdm_profile.specs.declared.profile.SelfTest.{SelfTest}
 use Rattle.rdm_profile.specs.declared.profile.own.ParameterDef.{ParameterDef}
 use Rattle.rdm_profile.specs.declared.profile.Unit.{Unit as DeviceUnit}
+use Rattle.rdm_profile.specs.MuteReply.{can_bind}
 use Rattle.rdm_profile.specs.OwnParameters.{is_addable, has_limits, can_start, has_good_fields}
 use Rattle.rdm_profile.specs.Standards.{follows}
 use Rattle.rdm_profile.specs.Profiles.{IsGoodUnit, CanOpen, CanHold, CanBeMade}
 use Rattle.toml.specs.Data.{Data, string, integer, float, boolean, datetime, array, table, Items, no_items, item, Members, get_member}
-use Rattle.rdm_fixture_keys.specs.Values.{number}
+use Rattle.rdm_fixture_keys.specs.Values.{number, own_uid, only_uid}
 use Rattle.rdm_fixture_keys.specs.Keys.{may, must}
 use Rattle.rdm_fixture.specs.Lists.{OfTable, EachIs, ListAt}
 use Rattle.rdm_fixture_keys.specs.Entries.{IsPersonality, IsSelfTest}
@@ -134,6 +138,25 @@ pub slots_counted : (found : Option ℕ) (described count more : ℕ) → Some m
 slots_counted found described count more is same =
     ap (λ (n : ℕ). min 512 (n + more)) same ∙ ap (λ (o : Option ℕ). min 512 (count + unwrap_or o 0)) is
 
+-- a binding UID belongs to one port
+bound_at : (b : Bool) (v : Uid) (o : Option Uid) → is_broadcast v ≡ b → option_map (λ u. Some u) (if b then None else Some v) ≡ Some o → IsTrue (can_bind o)
+bound_at true v o is h = absurd (cc)
+bound_at false v o is h = ap can_bind (sym (same_Some _ _ h)) ∙ ap not is
+
+bound_in : (r : Option Uid) (o : Option Uid) → option_map (λ u. Some u) (option_and_then own_uid r) ≡ Some o → IsTrue (can_bind o)
+bound_in None o h = absurd (cc)
+bound_in (Some v) o h = bound_at (is_broadcast v) v o refl h
+
+bound : (found : Option Data) (o : Option Uid) → may None only_uid found ≡ Some o → IsTrue (can_bind o)
+bound None o h = ap can_bind (sym (same_Some _ _ h))
+bound (Some (string s)) o h = bound_in (uid_in s) o h
+bound (Some (integer z)) o h = absurd (cc)
+bound (Some (float f)) o h = absurd (cc)
+bound (Some (boolean b)) o h = absurd (cc)
+bound (Some (datetime dt)) o h = absurd (cc)
+bound (Some (array ds)) o h = absurd (cc)
+bound (Some (table t)) o h = absurd (cc)
+
 -- as many slots as the root can use
 pub all_slots : (found : Option ℕ) (described count more : ℕ) → found ≡ Some more → described ≡ count → min 512 (described + unwrap_or found 0) ≡ min 512 (count + more)
 all_slots found described count more is same = rw (is, same) refl
@@ -174,5 +197,6 @@ made t p h opened held =
         };
         without = h.may_lack;
         locks = record { states = h.states; opened = opened; held = held };
+        binding = bound (get_member (codes "binding_uid") t) _ h.mute_reply.binding;
       },
     )

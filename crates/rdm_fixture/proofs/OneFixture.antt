@@ -14,6 +14,7 @@ use Rattle.rdm_profile.specs.declared.profile.fields.Field.{Field}
 use Rattle.rdm_profile.specs.declared.profile.fields.Width.{Width}
 use Rattle.rdm_profile.specs.declared.profile.Personality.{Personality}
 use Rattle.rdm_profile.specs.declared.profile.locks.Lock.{Lock}
+use Rattle.rdm_profile.specs.declared.profile.mute_reply.MuteReply.{MuteReply}
 use Rattle.rdm_profile.specs.declared.profile.particulars.Particular.{Particular}
 use Rattle.rdm_profile.specs.declared.profile.Profile.{Profile}
 use Rattle.rdm_profile.specs.declared.profile.workers.Worker.{Worker}
@@ -44,7 +45,7 @@ use Rattle.rdm_fixture.specs.OverTime.{IsPoint, SaysCourse, IsCourse}
 use Rattle.rdm_fixture.specs.Starting.{SaysPresent, IsStarting}
 use Rattle.rdm_fixture.specs.Outcomes.{IsOutcome}
 use Rattle.rdm_fixture_keys.specs.Entries.{IsPersonality, IsSlot, IsSensor, IsSelfTest, IsStatus, IsChoice}
-use Rattle.rdm_fixture.specs.Format.{IsUnit, SubDevices, IsEstimates, EstimatesAt, IsWorkers, WorkersAt, LanguagesAt, IsProfile, SaysFixture, IsFixture, parameter_named, IsLocking, AreLocks, all_locks, locked_pid}
+use Rattle.rdm_fixture.specs.Format.{IsUnit, SubDevices, IsEstimates, IsMuteReply, EstimatesAt, IsWorkers, WorkersAt, LanguagesAt, IsProfile, SaysFixture, IsFixture, parameter_named, IsLocking, AreLocks, all_locks, locked_pid}
 
 -- what is said is one thing
 abbrev pub SaysOne : {S A : Type 0} → (S → A → Type 0) → Type 0
@@ -317,13 +318,24 @@ one_choice (Some (float f)) x y p q = absurd p
 one_choice (Some (boolean b)) x y p q = absurd p
 one_choice (Some (datetime dt)) x y p q = absurd p
 
-abbrev particular_of : List ParameterDef → List ChoiceName → List Lock → ArrayVec ℕ 36 (Unit {0}) → ℕ → Estimates → Particular
-particular_of a0 a1 a2 a3 a4 a5 = record { own = a0; choices = a1; locks = a2; without = a3; more_slots = a4; estimates = a5 }
+abbrev mute_reply_of : Bool → Bool → Option Uid → MuteReply
+mute_reply_of a0 a1 a2 = record { proxied_device = a0; boot_loader = a1; binding = a2 }
+
+same_mute_reply : {a0 b0 a1 b1 : Bool} {a2 b2 : Option Uid} → a0 ≡ b0 → a1 ≡ b1 → a2 ≡ b2 → mute_reply_of a0 a1 a2 ≡ mute_reply_of b0 b1 b2
+same_mute_reply e0 e1 e2 = rw (e0, e1, e2) refl
+
+pub one_mute_reply : SaysOne IsMuteReply
+one_mute_reply t x y p q = same_mute_reply (one p.proxied q.proxied) (one p.boot_loader q.boot_loader) (one p.binding q.binding)
+
+abbrev particular_of : List ParameterDef → List ChoiceName → List Lock → ArrayVec ℕ 36 (Unit {0}) → ℕ → Estimates → MuteReply → Bool → Particular
+particular_of a0 a1 a2 a3 a4 a5 a6 a7 =
+    record { own = a0; choices = a1; locks = a2; without = a3; more_slots = a4; estimates = a5; mute_reply = a6; newest_only = a7 }
 
 same_particular : {a0 b0 : List ParameterDef} {a1 b1 : List ChoiceName} {a2 b2 : List Lock} {a3 b3 : ArrayVec ℕ 36 (Unit {0})} {a4 b4 : ℕ} {a5 b5 : Estimates}
-    → a0 ≡ b0 → a1 ≡ b1 → a2 ≡ b2 → a3 ≡ b3 → a4 ≡ b4 → a5 ≡ b5
-    → particular_of a0 a1 a2 a3 a4 a5 ≡ particular_of b0 b1 b2 b3 b4 b5
-same_particular e0 e1 e2 e3 e4 e5 = rw (e0, e1, e2, e3, e4, e5) refl
+    {a6 b6 : MuteReply} {a7 b7 : Bool}
+    → a0 ≡ b0 → a1 ≡ b1 → a2 ≡ b2 → a3 ≡ b3 → a4 ≡ b4 → a5 ≡ b5 → a6 ≡ b6 → a7 ≡ b7
+    → particular_of a0 a1 a2 a3 a4 a5 a6 a7 ≡ particular_of b0 b1 b2 b3 b4 b5 b6 b7
+same_particular e0 e1 e2 e3 e4 e5 e6 e7 = rw (e0, e1, e2, e3, e4, e5, e6, e7) refl
 
 abbrev pub profile_of : DeviceUnit → DeviceUnit → ℕ → ℕ → List ℕ → ArrayVec ℕ 8 (Unit {0}) → ArrayVec Slot 46 (Unit {0}) → ArrayVec SensorDef 8 (Unit {0}) → ArrayVec SelfTest 8 (Unit {0}) → ArrayVec StatusText 8 (Unit {0}) → ℕ → Workers → Particular → Profile
 profile_of a0 a1 a2 a3 a4 a5 a6 a7 a8 a9 a10 a11 a12 = record { root = a0; sub = a1; subs = a2; boot = a3; boot_text = a4; languages = a5; slots = a6; sensors = a7; tests = a8; status_texts = a9; presets = a10; workers = a11; particulars = a12 }
@@ -343,6 +355,8 @@ one_particular t x y p q =
     (ap (listed 36) (one_names t _ _ p.without q.without))
     (one p.more_slots q.more_slots)
     (one_times _ _ _ p.estimates q.estimates)
+    (one_mute_reply t _ _ p.mute_reply q.mute_reply)
+    (one p.newest_only q.newest_only)
 
 pub one_profile : SaysOne IsProfile
 one_profile t x y p q =

@@ -1,10 +1,11 @@
 -- What is written of a whole fixture, and of its UID and its languages.
-use Rattle.std.proofs.Common.{◌≡◌, ℕ, ◌+◌, ◌≤◌, ◌<◌, min, pos, false, List, [], ◌∷◌, ◌++◌, length, map, get_or, take, Option, Some, None, IsTrue, option_and_then, refl, sym, ap, ◌∙◌, arith, codes}
+use Rattle.std.proofs.Common.{◌≡◌, ℕ, ◌+◌, ◌≤◌, ◌<◌, min, pos, false, List, [], ◌∷◌, ◌++◌, length, map, get_or, take, Option, Some, None, IsTrue, Bool, true, not, option_map, option_and_then, refl, sym, ap, ◌∙◌, arith, codes}
 use Rattle.std.proofs.lemmas.List.{take_more}
 use Rattle.rdm_frame.specs.declared.uid.Uid.{Uid}
 use Rattle.rdm_frame.specs.Addressing.{is_broadcast}
 use Rattle.rdm_frame.specs.FrameText.{IsUid}
 use Rattle.rdm_frame.specs.UidText.{uid_text}
+use Rattle.rdm_profile.specs.MuteReply.{can_bind}
 use Rattle.rdm_frame.proofs.NumberSpellings.{uid_spelled, uid_written}
 use Rattle.toml.specs.Data.{Data, string, integer, table, Members, get_member}
 use Rattle.toml.specs.View.{view, items_view}
@@ -20,13 +21,13 @@ use Rattle.rdm_fixture.specs.Parameters.{IsParameter}
 use Rattle.rdm_fixture.specs.Notices.{IsNotice}
 use Rattle.rdm_fixture.specs.OverTime.{IsCourse}
 use Rattle.rdm_fixture.specs.Starting.{IsCounted, SaysPresent}
-use Rattle.rdm_fixture_keys.specs.Values.{number, text, uid, own_uid, language}
-use Rattle.rdm_fixture.specs.Writing.{with_field, text_field, locking_of, IsPlain}
+use Rattle.rdm_fixture_keys.specs.Values.{flag, number, text, uid, own_uid, only_uid, language}
+use Rattle.rdm_fixture.specs.Writing.{with_field, with_mute_reply, text_field, flag_field, uid_field, locking_of, IsPlain}
 use Rattle.rdm_fixture.proofs.Fields.{Field, members_on, find_on, or_else, get_on, only_on, absent, plain_on}
 use Rattle.rdm_fixture.proofs.ListEntries.{EachIs-last, slot_count-of}
 use Rattle.rdm_fixture.proofs.Locks.{locks_written, locks_again, map_count}
 use Rattle.rdm_fixture.proofs.Made.{all_slots}
-use Rattle.rdm_fixture.proofs.Said.{number_says, number_plain, text_plain, option_plain}
+use Rattle.rdm_fixture.proofs.Said.{number_says, flag_says, number_plain, text_plain, flag_field_plain, uid_field_plain, option_plain}
 use Rattle.rdm_fixture.proofs.WrittenEntries.{says_long, says_text}
 use Rattle.rdm_fixture.proofs.WrittenUnits.{kept, unit_kept, wider}
 
@@ -35,8 +36,16 @@ use Rattle.rdm_fixture.proofs.WrittenUnits.{kept, unit_kept, wider}
 own_again : (u : Uid) → is_broadcast u ≡ false → own_uid u ≡ Some u
 own_again u own = rw own refl
 
+not_true : (b : Bool) → not b ≡ true → b ≡ false
+not_true true h = absurd (cc)
+not_true false h = refl
+
 pub uid_says : (u : Uid) → IsUid u → is_broadcast u ≡ false → uid (string (uid_text u)) ≡ Some u
 uid_says u fits own = ap (option_and_then own_uid) ((uid_spelled (uid_text u) u).1 (uid_written u fits)) ∙ own_again u own
+
+-- the same of one that may be missing
+pub binding_says : (u : Uid) → IsUid u → IsTrue (can_bind (Some u)) → may None only_uid (uid_field (Some u)) ≡ Some (Some u)
+binding_says u fits one = ap (option_map (λ v. Some v)) (uid_says u fits (not_true (is_broadcast u) one))
 
 -- ---- the languages
 
@@ -62,11 +71,16 @@ module _ (f : Fixture) (base : Members) (uid_data languages : Data) (slots senso
       ∷ (codes "status", statuses) ∷ (codes "self_test", tests) ∷ (codes "sensor", sensors) ∷ (codes "slot", slots)
       ∷ (codes "more_slots", Some (integer (pos f.profile.particulars.more_slots))) ∷ (codes "presets", Some (integer (pos f.profile.presets)))
       ∷ (codes "languages", Some languages) ∷ (codes "boot_software_version_label", text_field f.profile.boot_text)
-      ∷ (codes "boot_software_version_id", Some (integer (pos f.profile.boot))) ∷ (codes "uid", Some uid_data) ∷ []
+      ∷ (codes "boot_software_version_id", Some (integer (pos f.profile.boot))) ∷ (codes "uid", Some uid_data)
+      ∷ (codes "newest_only", flag_field f.profile.particulars.newest_only)
+      ∷ (codes "proxied_device", flag_field f.profile.particulars.mute_reply.proxied_device) ∷ (codes "boot_loader", flag_field f.profile.particulars.mute_reply.boot_loader)
+      ∷ (codes "binding_uid", uid_field f.profile.particulars.mute_reply.binding) ∷ []
 
   -- each table has one field more than the one before
-  pub fixture_members : (t1 t2 t3 t4 t5 t6 t7 t8 t9 t10 t11 t12 t13 t14 t15 t16 t17 t18 t19 : Members)
-      → t1 ≡ with_field (codes "uid") (Some uid_data) base
+  pub fixture_members : (muted newest t1 t2 t3 t4 t5 t6 t7 t8 t9 t10 t11 t12 t13 t14 t15 t16 t17 t18 t19 : Members)
+      → muted ≡ with_mute_reply f.profile.particulars.mute_reply base
+      → newest ≡ with_field (codes "newest_only") (flag_field f.profile.particulars.newest_only) muted
+      → t1 ≡ with_field (codes "uid") (Some uid_data) newest
       → t2 ≡ with_field (codes "boot_software_version_id") (Some (integer (pos f.profile.boot))) t1
       → t3 ≡ with_field (codes "boot_software_version_label") (text_field f.profile.boot_text) t2
       → t4 ≡ with_field (codes "languages") (Some languages) t3
@@ -81,8 +95,10 @@ module _ (f : Fixture) (base : Members) (uid_data languages : Data) (slots senso
       → t17 ≡ with_field (codes "estimates") times t16 → t18 ≡ with_field (codes "workers") chosen t17
       → t19 ≡ with_field (codes "status_message") messages t18
       → t19 ≡ members_on base fixture_fields
-  fixture_members t1 t2 t3 t4 t5 t6 t7 t8 t9 t10 t11 t12 t13 t14 t15 t16 t17 t18 t19 e1 e2 e3 e4 e5 e6 e7 e8 e9 e10 e11 e12 e13 e14 e15 e16 e17 e18 e19 =
-      let at2 = e2 ∙ ap (with_field (codes "boot_software_version_id") (Some (integer (pos f.profile.boot)))) e1 in
+  fixture_members muted newest t1 t2 t3 t4 t5 t6 t7 t8 t9 t10 t11 t12 t13 t14 t15 t16 t17 t18 t19 is_muted is_newest e1 e2 e3 e4 e5 e6 e7 e8 e9 e10 e11 e12 e13 e14 e15 e16 e17 e18 e19 =
+      let at0 = is_newest ∙ ap (with_field (codes "newest_only") (flag_field f.profile.particulars.newest_only)) is_muted in
+      let at1 = e1 ∙ ap (with_field (codes "uid") (Some uid_data)) at0 in
+      let at2 = e2 ∙ ap (with_field (codes "boot_software_version_id") (Some (integer (pos f.profile.boot)))) at1 in
       let at3 = e3 ∙ ap (with_field (codes "boot_software_version_label") (text_field f.profile.boot_text)) at2 in
       let at4 = e4 ∙ ap (with_field (codes "languages") (Some languages)) at3 in
       let at5 = e5 ∙ ap (with_field (codes "presets") (Some (integer (pos f.profile.presets)))) at4 in
@@ -110,6 +126,7 @@ module _ (f : Fixture) (base : Members) (uid_data languages : Data) (slots senso
   found key o is none = get_on base key fixture_fields ∙ is ∙ or_absent o (get_member key base) none
 
   pub fixture_says : CanBeDescribed f → IsTrue (has_only root_keys base) → IsCounted base f.start → ((slots : ℕ) → slots ≡ min 512 (length f.profile.slots.items + f.profile.particulars.more_slots) → IsUnit slots base f.profile.root)
+      → may None only_uid (uid_field f.profile.particulars.mute_reply.binding) ≡ Some f.profile.particulars.mute_reply.binding
       → uid uid_data ≡ Some f.uid → says_long f.profile.boot → says_text f.profile.boot_text
       → LanguagesAt (Some languages) f.profile.languages.items
       → ListAt (OfTable IsSlot) slots f.profile.slots.items → length f.profile.slots.items ≤ 46
@@ -127,7 +144,7 @@ module _ (f : Fixture) (base : Members) (uid_data languages : Data) (slots senso
       → EstimatesAt times f.profile.particulars.estimates → WorkersAt chosen f.profile.workers
       → ListAt (OfTable IsNotice) messages f.start.notices.items → length f.start.notices.items ≤ 16
       → IsFixture (members_on base fixture_fields) f
-  fixture_says can only counted root own boot boot_text langs slot slot_fit sensor sensor_fit present course test test_fit status status_fit lacked lacked_fit added added_fit named named_fit lock lock_fit outcome outcome_fit sub time worker notice notice_fit =
+  fixture_says can only counted root bound own boot boot_text langs slot slot_fit sensor sensor_fit present course test test_fit status status_fit lacked lacked_fit added added_fit named named_fit lock lock_fit outcome outcome_fit sub time worker notice notice_fit =
       let fs = fixture_fields in
       let t = members_on base fs in
       let at_slot : get_member (codes "slot") t ≡ slots = found (codes "slot") slots refl (absent root_keys (codes "slot") base only refl) in
@@ -144,7 +161,8 @@ module _ (f : Fixture) (base : Members) (uid_data languages : Data) (slots senso
       record {
         keys = only_on fixture_keys base fs
             (wider (codes "uid" ∷ codes "boot_software_version_id" ∷ codes "boot_software_version_label" ∷ codes "languages" ∷ codes "presets"
-            ∷ codes "more_slots" ∷ codes "slot" ∷ codes "sensor" ∷ codes "self_test" ∷ codes "status" ∷ codes "without" ∷ codes "parameter" ∷ codes "choice" ∷ codes "lock" ∷ codes "outcome"
+            ∷ codes "more_slots" ∷ codes "binding_uid" ∷ codes "boot_loader" ∷ codes "proxied_device" ∷ codes "newest_only"
+            ∷ codes "slot" ∷ codes "sensor" ∷ codes "self_test" ∷ codes "status" ∷ codes "without" ∷ codes "parameter" ∷ codes "choice" ∷ codes "lock" ∷ codes "outcome"
             ∷ codes "sub_devices" ∷ codes "estimates" ∷ codes "workers" ∷ codes "status_message" ∷ []) root_keys base only) refl;
         said = record {
           own = ap (must uid) (get_on base (codes "uid") fs) ∙ own;
@@ -182,6 +200,16 @@ module _ (f : Fixture) (base : Members) (uid_data languages : Data) (slots senso
             states = good.locks.states;
             estimates = rw (found (codes "estimates") times refl (absent root_keys (codes "estimates") base only refl)) time;
             workers = rw (found (codes "workers") chosen refl (absent root_keys (codes "workers") base only refl)) worker;
+            mute_reply = record {
+              binding = ap (may None only_uid) (found (codes "binding_uid") (uid_field f.profile.particulars.mute_reply.binding) refl
+                  (absent root_keys (codes "binding_uid") base only refl)) ∙ bound;
+              boot_loader = ap (may false flag) (found (codes "boot_loader") (flag_field f.profile.particulars.mute_reply.boot_loader) refl
+                  (absent root_keys (codes "boot_loader") base only refl)) ∙ flag_says _;
+              proxied = ap (may false flag) (found (codes "proxied_device") (flag_field f.profile.particulars.mute_reply.proxied_device) refl
+                  (absent root_keys (codes "proxied_device") base only refl)) ∙ flag_says _;
+            };
+            newest_only = ap (may false flag) (found (codes "newest_only") (flag_field f.profile.particulars.newest_only) refl
+                (absent root_keys (codes "newest_only") base only refl)) ∙ flag_says _;
           };
           outcomes = record { items = rw (found (codes "outcome") outcomes refl (absent root_keys (codes "outcome") base only refl)) outcome; enough = omega arith; fit = outcome_fit };
           start = record {
@@ -219,5 +247,20 @@ module _ (f : Fixture) (base : Members) (uid_data languages : Data) (slots senso
       (option_plain 4 (codes "status_message") messages _ is_messages (option_plain 4 (codes "workers") chosen _ is_chosen (option_plain 4 (codes "estimates") times _ is_times (option_plain 4 (codes "sub_devices") subs _ is_subs (option_plain 4 (codes "outcome") outcomes _ is_outcomes
       (option_plain 4 (codes "lock") locks _ is_locks (option_plain 4 (codes "choice") names _ is_named (option_plain 4 (codes "parameter") owns _ is_own (option_plain 4 (codes "without") lacks _ is_lacks
       (option_plain 4 (codes "status") statuses _ is_statuses (option_plain 4 (codes "self_test") tests _ is_tests
-      (option_plain 4 (codes "sensor") sensors _ is_sensors (option_plain 4 (codes "slot") slots _ is_slots
-      (number_plain 4 _, (number_plain 4 _, (is_languages, text_plain 4 (codes "boot_software_version_label") f.profile.boot_text _ (number_plain 4 _, (is_uid, tt))))))))))))))))))
+      (option_plain 4 (codes "sensor") sensors _ is_sensors (option_plain 4 (codes "slot") slots _ is_slots (
+        number_plain 4 _,
+        (
+          number_plain 4 _,
+          (
+            is_languages,
+            text_plain 4 (codes "boot_software_version_label") f.profile.boot_text _ (
+              number_plain 4 _,
+              (
+                is_uid,
+                flag_field_plain 4 (codes "newest_only") f.profile.particulars.newest_only _ (flag_field_plain 4 (codes "proxied_device") f.profile.particulars.mute_reply.proxied_device _
+                    (flag_field_plain 4 (codes "boot_loader") f.profile.particulars.mute_reply.boot_loader _ (uid_field_plain 4 (codes "binding_uid") f.profile.particulars.mute_reply.binding [] tt))),
+              ),
+            ),
+          ),
+        ),
+      ))))))))))))))

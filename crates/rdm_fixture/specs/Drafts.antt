@@ -13,6 +13,8 @@ particular_from a = record {
   without = a.without;
   more_slots = a.more_slots;
   estimates = a.estimates;
+  mute_reply = a.mute_reply;
+  newest_only = a.newest_only;
 }
 
 -- the same set apart by this

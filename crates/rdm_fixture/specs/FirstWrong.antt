@@ -2,6 +2,7 @@
 use Rattle.std.specs.Prelude.{◌≡◌, ◌≢◌, ℕ, ◌+◌, ◌<◌, ◌≤◌, Bool, ℤ, pos, neg_ℤ, true, false, ◌⊎◌, IsTrue, List, [], ◌∷◌, ◌++◌, length, slice_index_or, Option, Some, None, IsSome, AllPairs, codes}
 use Rattle.toml.specs.Data.{Data, table, array, Members, get_member}
 use Rattle.rdm_profile.specs.declared.profile.estimates.Estimates.{Estimates}
+use Rattle.rdm_profile.specs.declared.profile.mute_reply.MuteReply.{MuteReply}
 use Rattle.rdm_profile.specs.declared.profile.Unit.{Unit as DeviceUnit}
 use Rattle.rdm_profile.specs.declared.profile.workers.Workers.{Workers}
 use Rattle.rdm_profile.specs.declared.profile.choices.ChoiceName.{ChoiceName}
@@ -26,11 +27,11 @@ use Rattle.rdm_fixture_keys.specs.declared.refusal.Wanted.TheVariants as wanted
 use Rattle.rdm_fixture_keys.specs.declared.refusal.Section.TheVariants as sections
 use Rattle.rdm_fixture_keys.specs.Faults.{Fault, fault, in_entry, in_section}
 use Rattle.rdm_fixture_keys.specs.Entries.{IsPersonality, IsSlot, IsSensor, IsSelfTest, IsStatus, IsChoice, personality_parts, slot_parts, sensor_parts, self_test_parts, status_parts, choice_parts}
-use Rattle.rdm_fixture.specs.Format.{IsLocking, AreLocks, all_locks, IsUnit, SubDevices, EstimatesAt, WorkersAt, LanguagesAt, IsProfile, SaysFixture, locking_keys, locked_pid, estimates_keys, workers_keys, unit_keys, fixture_keys, root_slots, parameter_named}
+use Rattle.rdm_fixture.specs.Format.{IsLocking, AreLocks, all_locks, IsUnit, SubDevices, EstimatesAt, WorkersAt, IsMuteReply, LanguagesAt, IsProfile, SaysFixture, locking_keys, locked_pid, estimates_keys, workers_keys, unit_keys, fixture_keys, root_slots, parameter_named}
 use Rattle.rdm_fixture_keys.specs.Keys.{must, has_only}
 use Rattle.rdm_fixture.specs.Lists.{OfTable, EachIs, Lists, items_count, entries}
 use Rattle.rdm_fixture.specs.Outcomes.{IsOutcome, task, severity, outcome_in, and_job_keys, rule_keys}
-use Rattle.rdm_fixture_keys.specs.Values.{integer_from, flag, within, number, worker, language, uid}
+use Rattle.rdm_fixture_keys.specs.Values.{integer_from, flag, within, number, worker, language, uid, only_uid}
 use Rattle.rdm_fixture.specs.Notices.{IsNotice, notice_parts}
 use Rattle.rdm_fixture.specs.OverTime.{IsCourse, course_parts}
 use Rattle.rdm_fixture.specs.Parameters.{IsField, SaysParameter, IsParameter, parameter_keys, own_pid, command_class, data_type, slots_of, shape_in, least_of, greatest_of, limit, low_in, high_in, start, can_reset}
@@ -233,7 +234,22 @@ abbrev pub choice : Part
 choice =
     says_one (λ t (ws : Workers). WorkersAt (get_member (codes "workers") t) ws) (λ t f. WrongWorkers (get_member (codes "workers") t) f)
 
+-- ---- what it tells when it is muted
+
+-- a binding UID is that of a port, and the others are truths
+abbrev pub muting_parts : List Part
+muting_parts =
+    free (codes "binding_uid") only_uid wanted.Uid ∷ free (codes "boot_loader") flag wanted.Boolean
+    ∷ free (codes "proxied_device") flag wanted.Boolean ∷ []
+
+abbrev pub muting : Part
+muting = says_one IsMuteReply (FirstWrong muting_parts)
+
 -- ---- the whole
+
+-- whether the message of a change takes the place of one that still waits
+abbrev pub newest : Part
+newest = free (codes "newest_only") flag wanted.Boolean
 
 abbrev pub WrongLanguages : Option Data → Fault → Type 0
 WrongLanguages None f = ⊥
@@ -339,7 +355,7 @@ profile_parts =
     ∷ entries (codes "sensor") IsSensor (FirstWrong sensor_parts) 0 8
     ∷ entries (codes "self_test") IsSelfTest (FirstWrong self_test_parts) 0 8 ∷ differing (codes "self_test") (codes "number") IsSelfTest (λ a. a.number)
     ∷ entries (codes "status") IsStatus (FirstWrong status_parts) 0 8 ∷ differing (codes "status") (codes "id") IsStatus (λ a. a.id)
-    ∷ names ∷ optional ∷ unneeded ∷ (added_parts ++ (times ∷ choice ∷ []))
+    ∷ names ∷ optional ∷ unneeded ∷ (added_parts ++ (times ∷ choice ∷ muting ∷ newest ∷ []))
 
 -- what it is switched on with
 abbrev pub present_parts : List Part

@@ -1,11 +1,12 @@
 -- Which table is a fixture: each key, what it says, and its default. A key is named as the parameter or the field of
 -- E1.20 that it sets, in small letters.
-use Rattle.std.specs.Prelude.{◌≡◌, ◌≢◌, ℕ, ◌+◌, ◌<◌, ◌≤◌, min, IsTrue, List, [], ◌∷◌, ◌++◌, length, Option, Some, None, option_map, unwrap_or, AllPairs, codes}
+use Rattle.std.specs.Prelude.{◌≡◌, ◌≢◌, ℕ, ◌+◌, ◌<◌, ◌≤◌, min, false, IsTrue, List, [], ◌∷◌, ◌++◌, length, Option, Some, None, option_map, unwrap_or, AllPairs, codes}
 use Rattle.toml.specs.Data.{Data, string, table, array, Members, get_member}
 use Rattle.rdm_profile.specs.declared.profile.locks.Lock.{Lock}
 use Rattle.rdm_profile.specs.declared.profile.Profile.{Profile}
 use Rattle.rdm_profile.specs.declared.profile.Unit.{Unit as DeviceUnit}
 use Rattle.rdm_profile.specs.declared.profile.estimates.Estimates.{Estimates}
+use Rattle.rdm_profile.specs.declared.profile.mute_reply.MuteReply.{MuteReply}
 use Rattle.rdm_profile.specs.declared.profile.workers.Worker.TheVariants.{First, Second}
 use Rattle.rdm_profile.specs.declared.profile.workers.Workers.{Workers}
 use Rattle.rdm_profile.specs.Estimates.{usual}
@@ -17,7 +18,7 @@ use Rattle.rdm_fixture.specs.declared.fixture.Fixture.{Fixture}
 use Rattle.rdm_fixture.specs.declared.profile.locks.Locking.{Locking}
 use Rattle.rdm_fixture.specs.Outcomes.{IsOutcome}
 use Rattle.rdm_fixture_keys.specs.Entries.{IsPersonality, IsSlot, IsSensor, IsSelfTest, IsStatus, IsChoice}
-use Rattle.rdm_fixture_keys.specs.Values.{named, number, worker, text, language, uid}
+use Rattle.rdm_fixture_keys.specs.Values.{flag, named, number, worker, text, language, uid, only_uid}
 use Rattle.rdm_standard_names.specs.declared.kind.NameKind.TheVariants.{Categories}
 use Rattle.rdm_fixture.specs.Parameters.{IsParameter}
 use Rattle.rdm_fixture.specs.Starting.{IsStarting, counter_keys}
@@ -129,6 +130,14 @@ WorkersAt None ws = ws ≡ usual_workers
 WorkersAt (Some (table t)) ws = IsWorkers t ws
 WorkersAt (Some _) ws = ⊥
 
+-- ---- what it tells when it is muted
+
+-- The UID of its first port, that it needs firmware before it can do anything else, and that a proxy answers for it. Section 7.6.
+pub record IsMuteReply (t : Members) (m : MuteReply) : Type 0 where
+  pub binding : May t (codes "binding_uid") None only_uid m.binding
+  pub boot_loader : May t (codes "boot_loader") false flag m.boot_loader
+  pub proxied : May t (codes "proxied_device") false flag m.proxied_device
+
 -- ---- the whole
 
 -- how many slots are described
@@ -158,9 +167,9 @@ root_keys = counter_keys ++ unit_keys
 abbrev pub fixture_keys : List (List ℕ)
 fixture_keys =
     codes "uid" ∷ codes "boot_software_version_id" ∷ codes "boot_software_version_label" ∷ codes "languages"
-    ∷ codes "presets" ∷ codes "more_slots" ∷ codes "slot" ∷ codes "sensor" ∷ codes "self_test" ∷ codes "status"
-    ∷ codes "without" ∷ codes "parameter" ∷ codes "choice" ∷ codes "lock" ∷ codes "outcome" ∷ codes "sub_devices"
-    ∷ codes "estimates" ∷ codes "workers" ∷ codes "status_message" ∷ root_keys
+    ∷ codes "presets" ∷ codes "more_slots" ∷ codes "binding_uid" ∷ codes "boot_loader" ∷ codes "proxied_device" ∷ codes "newest_only"
+    ∷ codes "slot" ∷ codes "sensor" ∷ codes "self_test" ∷ codes "status" ∷ codes "without" ∷ codes "parameter" ∷ codes "choice"
+    ∷ codes "lock" ∷ codes "outcome" ∷ codes "sub_devices" ∷ codes "estimates" ∷ codes "workers" ∷ codes "status_message" ∷ root_keys
 
 -- What the devices are made with. The parameters that it adds are in the order of their PIDs, and each thing of which one is chosen has a
 -- name. LOCK_STATE has each state that locks something. Those that the fixture lacks are ones that it may lack, and none that another one
@@ -189,6 +198,8 @@ pub record IsProfile (t : Members) (p : Profile) : Type 0 where
   pub states : HaveStates p.particulars.own p.particulars.locks
   pub estimates : EstimatesAt (get_member (codes "estimates") t) p.particulars.estimates
   pub workers : WorkersAt (get_member (codes "workers") t) p.workers
+  pub mute_reply : IsMuteReply t p.particulars.mute_reply
+  pub newest_only : May t (codes "newest_only") false flag p.particulars.newest_only
 
 -- What its keys say.
 pub record SaysFixture (t : Members) (f : Fixture) : Type 0 where

@@ -1,11 +1,14 @@
 -- What is put into a table that is written, and what TOML can write of it.
-use Rattle.std.specs.Prelude.{◌≡◌, ℕ, ◌==◌, ◌≤◌, if◌then◌else◌, pos, true, IsTrue, List, [], ◌∷◌, Option, Some, None, codes}
+use Rattle.std.specs.Prelude.{◌≡◌, ℕ, ◌==◌, ◌≤◌, if◌then◌else◌, pos, Bool, true, false, IsTrue, List, [], ◌∷◌, Option, Some, None, codes}
 use Rattle.std.specs.Ordering.{nat_cmp, match_ordering}
 use Rattle.std.specs.Cmp.Lexicographic.{slice_cmp}
 use Rattle.std.specs.Str.Lossy.{utf8_lossy}
 use Rattle.rdm_frame.specs.Digits.{digits}
 use Rattle.rdm_frame.specs.Severities.{severity_name}
+use Rattle.rdm_frame.specs.UidText.{uid_text}
+use Rattle.rdm_frame.specs.declared.uid.Uid.{Uid}
 use Rattle.rdm_profile.specs.declared.profile.locks.Lock.{Lock}
+use Rattle.rdm_profile.specs.declared.profile.mute_reply.MuteReply.{MuteReply}
 use Rattle.rdm_profile.specs.declared.profile.own.Rights.{Rights}
 use Rattle.rdm_profile.specs.declared.profile.own.Rights.TheVariants as rights
 use Rattle.rdm_profile.specs.declared.profile.own.Shape.{Shape}
@@ -40,6 +43,16 @@ with_field k (Some d) ms = with_member k d ms
 abbrev pub text_field : List ℕ → Option Data
 text_field [] = None
 text_field (c ∷ cs) = Some (string (utf8_lossy (c ∷ cs)))
+
+-- what is written of a truth: nothing if it is `false`
+abbrev pub flag_field : Bool → Option Data
+flag_field true = Some (boolean true)
+flag_field false = None
+
+-- what is written of a UID: nothing if there is none
+abbrev pub uid_field : Option Uid → Option Data
+uid_field None = None
+uid_field (Some uid) = Some (string (uid_text uid))
 
 -- what is written of a number that has a name, or that has none
 abbrev pub name_or_number : Option (List ℕ) → ℕ → Data
@@ -121,6 +134,14 @@ HasWords Done = Unit {0}
 HasWords (Reading value) = signed (integer value) ≡ Some value
 HasWords (Failed severity id v1 v2) =
     (number 0 0xFFFF (integer (pos id)) ≡ Some id) × (number 0 0xFFFF (integer (pos v1)) ≡ Some v1) × (number 0 0xFFFF (integer (pos v2)) ≡ Some v2)
+
+-- ---- what it tells when it is muted
+
+-- the members, and what the answers to DISC_MUTE and DISC_UN_MUTE tell besides. Section 7.6.
+abbrev pub with_mute_reply : MuteReply → Members → Members
+with_mute_reply m ms =
+    with_field (codes "proxied_device") (flag_field m.proxied_device)
+    (with_field (codes "boot_loader") (flag_field m.boot_loader) (with_field (codes "binding_uid") (uid_field m.binding) ms))
 
 -- ---- the root
 

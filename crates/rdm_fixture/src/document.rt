@@ -112,6 +112,8 @@ fn particulars_of(alloc: Global, apart: Apart) -> Result<Particulars, AllocError
         without,
         more_slots,
         estimates,
+        mute_reply,
+        newest_only,
     } = apart;
     let Added {
         own,
@@ -125,6 +127,8 @@ fn particulars_of(alloc: Global, apart: Apart) -> Result<Particulars, AllocError
         without,
         more_slots,
         estimates,
+        mute_reply,
+        newest_only,
     };
     Particulars::of(alloc, particular)
 }
@@ -145,6 +149,10 @@ fn fixture_of(table: &Table) -> Result<(Fixture, Apart), Refusal>
             "languages",
             "presets",
             "more_slots",
+            "binding_uid",
+            "boot_loader",
+            "proxied_device",
+            "newest_only",
             "slot",
             "sensor",
             "self_test",

@@ -20,13 +20,14 @@ mod locks;
 
 use crate::estimates::estimates;
 use crate::lists::list;
+use crate::muting::mute_reply;
 use crate::unit::{sub_devices, unit};
 use crate::workers::workers;
 pub(crate) use added::Added;
 use added::{additions, without};
 use arrayvec::ArrayVec;
-use rdm_device::{Estimates, Particulars, Profile, SelfTest, Slot, StatusText};
-use rdm_fixture_keys::keys::{find, number_or, text_or_none};
+use rdm_device::{Estimates, MuteReply, Particulars, Profile, SelfTest, Slot, StatusText};
+use rdm_fixture_keys::keys::{find, flag_or, number_or, text_or_none};
 use rdm_fixture_keys::{Refusal, Wanted};
 use toml::value::Array;
 use toml::{Table, Value};
@@ -38,6 +39,8 @@ pub(crate) struct Apart {
     pub(crate) without: ArrayVec<u16, 36>,
     pub(crate) more_slots: u16,
     pub(crate) estimates: Estimates,
+    pub(crate) mute_reply: MuteReply,
+    pub(crate) newest_only: bool,
 }
 
 /// The profile of a table, of which only the keys of a profile are looked at. What sets it apart, and takes memory, stands beside it.
@@ -61,6 +64,8 @@ pub(crate) fn profile(table: &Table) -> Result<(Profile, Apart), Refusal>
     let added = additions(table)?;
     let estimates = estimates(table)?;
     let workers = workers(table)?;
+    let mute_reply = mute_reply(table)?;
+    let newest_only = flag_or(table, "newest_only", false)?;
     let profile = Profile {
         root,
         sub,
@@ -81,6 +86,8 @@ pub(crate) fn profile(table: &Table) -> Result<(Profile, Apart), Refusal>
         without,
         more_slots,
         estimates,
+        mute_reply,
+        newest_only,
     };
     Ok((profile, apart))
 }

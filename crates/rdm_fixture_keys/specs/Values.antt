@@ -88,3 +88,7 @@ own_uid u = if is_broadcast u then None else Some u
 abbrev pub uid : Data → Option Uid
 uid (string s) = option_and_then own_uid (uid_in s)
 uid _ = None
+
+-- the same of a key that may be left out; without it there is none
+abbrev pub only_uid : Data → Option (Option Uid)
+only_uid d = option_map (λ u. Some u) (uid d)

@@ -249,7 +249,8 @@ pub fn flag_or(table: &Table, key: &str, default: bool) -> Result<bool, Refusal>
     }
 }
 
-fn flag_in(value: &Value) -> Option<bool>
+/// The truth of a value, if it is one.
+pub fn flag_in(value: &Value) -> Option<bool>
     ensures { result ≡ says.flag (view value.now) }
 {
     match value {
@@ -312,7 +313,8 @@ pub fn own_uid(table: &Table, key: &str) -> Result<Uid, Refusal>
     }
 }
 
-fn uid_in(value: &Value) -> Option<Uid>
+/// The UID of a value, if it is one of one device.
+pub fn uid_in(value: &Value) -> Option<Uid>
     ensures { result ≡ says.uid (view value.now) }
 {
     let Value::String(text) = value else {

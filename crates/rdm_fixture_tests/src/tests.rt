@@ -8,6 +8,7 @@ mod changed;
 mod estimates;
 mod lines;
 mod locks;
+mod muting;
 mod outcomes;
 mod parameters;
 mod refusals;
@@ -18,7 +19,9 @@ mod values;
 mod workers;
 
 use rdm_courses::{Course, Notice, Point};
-use rdm_device::{ChoiceName, Estimates, Field, Lock, ParameterDef, SensorDef, Workers};
+use rdm_device::{
+    ChoiceName, Estimates, Field, Lock, ParameterDef, Particulars, SensorDef, Workers,
+};
 use rdm_fixture::{Fixture, Starting, shown_at_start};
 use std::alloc::{AllocError, Global};
 use std::process::Abort;
@@ -56,6 +59,9 @@ enum Part {
     Courses,
     /// The status messages that come by themselves.
     Notices,
+    /// What it tells when it is muted: that a proxy answers for it, that it needs firmware, and its binding UID; and whether only the
+    /// newest message of a change waits.
+    Muting,
 }
 
 /// Rows of one kind.
@@ -150,6 +156,7 @@ fn part_of(alloc: Global, part: Part, fixture: &Fixture) -> Result<String, Alloc
         Part::Sensors => sensors_text(alloc, profile.sensors.as_slice()),
         Part::Courses => courses_text(alloc, fixture.start.courses.as_slice()),
         Part::Notices => notices_text(alloc, fixture.start.notices.as_slice()),
+        Part::Muting => muting_text(alloc, &profile.particulars),
     }
 }
 
@@ -169,6 +176,16 @@ fn workers_text(alloc: Global, workers: Workers) -> Result<String, AllocError> {
     let self_test = workers.self_test.number();
     let sensor = workers.sensor.number();
     format!(in alloc; "{lamp} {power} {self_test} {sensor}")
+}
+
+fn muting_text(alloc: Global, particulars: &Particulars) -> Result<String, AllocError> {
+    let reply = particulars.mute_reply();
+    let (proxied, boot_loader) = (reply.proxied_device, reply.boot_loader);
+    let newest = particulars.newest_only();
+    match reply.binding {
+        Some(uid) => format!(in alloc; "{proxied} {boot_loader} {uid}, {newest}"),
+        None => format!(in alloc; "{proxied} {boot_loader} none, {newest}"),
+    }
 }
 
 fn start_text(alloc: Global, fixture: &Fixture) -> Result<String, AllocError> {

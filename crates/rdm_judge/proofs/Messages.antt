@@ -22,8 +22,9 @@ use Rattle.rdm_outbox.specs.declared.job.Job.{Job}
 use Rattle.rdm_outbox.specs.Jobs.{after_arrive, has_room, next_job, waiting_of}
 use Rattle.rdm_outbox.specs.Messages.{after_dispense, after_next, after_status, dispensed, is_last, last_of, last_or, next_of, status_dispensed}
 use Rattle.rdm_outbox.specs.Statuses.{can_note, status_message, status_now}
+use Rattle.rdm_outbox.proofs.Newest.{all_newest}
 use Rattle.rdm_responder.specs.History.{Event, Heard, Arrived, Changed, Placed, Noted, Restored, Dropped}
-use Rattle.rdm_responder.specs.Rules.{Account, account_after, after_entry, after_message, after_outcome, outbox_after}
+use Rattle.rdm_responder.specs.Rules.{Account, account_after, after_entry, after_message, after_outcome, newest_only, outbox_after}
 use Rattle.rdm_judge.specs.Seen.{is_unseen}
 
 -- No message was given or answered, and no fewer arrived.
@@ -62,9 +63,10 @@ outcome_later p b work (Failed severity id v1 v2) = entry_later p b (record { su
 one_more : (m : Message) (ms : List Message) → length ms ≤ length (ms ++ m ∷ [])
 one_more m ms = omega (arith, length-append ms (m ∷ []))
 
-message_later : (b : outbox.Account) (message : Option Message) → Later b (after_message b message)
-message_later b None = itself b
-message_later b (Some m) = record { given = refl; answers = refl; arrived = one_more m b.arrived }
+message_later : (newest : Bool) (b : outbox.Account) (message : Option Message) → Later b (after_message newest b message)
+message_later newest b None = itself b
+message_later true b (Some m) = record { given = refl; answers = refl; arrived = all_newest b m }
+message_later false b (Some m) = record { given = refl; answers = refl; arrived = one_more m b.arrived }
 
 arrive_later : (b : outbox.Account) (worker : ℕ) (m : Message) → Later b (after_arrive b worker m)
 arrive_later b worker m = record { given = refl; answers = refl; arrived = one_more m b.arrived }
@@ -75,7 +77,7 @@ unseen_later a (Arrived r) e =
     let b : outbox.Account = after_arrive a.outbox (worker_at a.outbox.workers r.job.work) (committed a.parameters r.job.work r.outcome) in
     let p : Parameters = after_commit a.parameters r.job.work r.outcome in
     (then_later a.outbox b (after_outcome p b r.job.work r.outcome) (arrive_later a.outbox _ _) (outcome_later p b r.job.work r.outcome), refl)
-unseen_later a (Changed change) e = (message_later a.outbox (change_message a.parameters change), refl)
+unseen_later a (Changed change) e = (message_later (newest_only a.parameters) a.outbox (change_message a.parameters change), refl)
 unseen_later a (Placed sub pid bytes) e = (itself a.outbox, refl)
 unseen_later a (Noted entry) e = (entry_later a.parameters a.outbox entry, refl)
 unseen_later a (Restored image) e = (itself a.outbox, refl)

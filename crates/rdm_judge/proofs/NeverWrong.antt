@@ -1,5 +1,5 @@
 -- What a fixture replies is never judged wrong.
-use Rattle.std.proofs.Common.{◌≡◌, ℕ, Bool, true, false, not, cond, ◌==◌, ◌&&◌, ◌||◌, ◌+◌, List, Option, Some, None, inl, inr, refl, sym, ap, subst, ◌∙◌}
+use Rattle.std.proofs.Common.{◌≡◌, ℕ, Bool, true, false, not, cond, ◌==◌, ◌&&◌, ◌||◌, ◌+◌, ◌++◌, List, length, Option, Some, None, inl, inr, refl, sym, ap, subst, ◌∙◌}
 use Rattle.std.proofs.lemmas.Slice.Eq.{bytes_eq-Decides}
 use Rattle.std.specs.Int.{w16, to_be_bytes}
 use Rattle.std.specs.Str.{bytes_eq}
@@ -20,7 +20,7 @@ use Rattle.rdm_params.specs.Device.Parameters.{Parameters}
 use Rattle.rdm_params.specs.Jobs.Laws.{SameDevices}
 use Rattle.rdm_params.proofs.Fetches.{get_queues, get_statuses, set_fetches_nothing}
 use Rattle.rdm_responder.specs.Requests.{Request, Ignored, Branch, Muting, Get, Set, request_in, request_of}
-use Rattle.rdm_responder.specs.Rules.{Account, Response, account_of, ack, answer_to, answer_with, control_field, is_between, is_muted, message_count, outbox_after, reply_with, response_of}
+use Rattle.rdm_responder.specs.Rules.{Account, Response, account_of, ack, answer_to, answer_with, binding_slots, is_between, is_muted, message_count, mute_data, outbox_after, reply_with, response_of}
 use Rattle.rdm_judge.specs.declared.asked.Asked.TheVariants as asking
 use Rattle.rdm_judge.specs.declared.verdict.Verdict.{Verdict}
 use Rattle.rdm_judge.specs.declared.verdict.Verdict.TheVariants.{Right}
@@ -121,7 +121,7 @@ record Twins (own : Uid) (profile : Profile) (a c : Account) : Type 0 where
 abbrev pub as_own : Uid → Profile → Account → Request → Option (List ℕ)
 as_own own profile a Ignored = None
 as_own own profile a (Branch lower upper) = cond (not (is_muted a.mutings) && is_between lower own upper) (Some (branch_reply own)) None
-as_own own profile a (Muting muted f) = answer_with own f 0 (ack f (control_field a.parameters))
+as_own own profile a (Muting muted f) = answer_with own f 0 (ack f (mute_data a.parameters))
 as_own own profile a (Get f) = reply_with own profile a.outbox f (got a.parameters f.sub f.pid f.body)
 as_own own profile a (Set f) = reply_with own profile a.outbox f (answer_to_set a.parameters f.sub f.pid f.body)
 
@@ -132,15 +132,21 @@ is_own own profile a (Muting muted f) u p = ap (λ (x : Uid). as_own x profile a
 is_own own profile a (Get f) u p = ap (λ (x : Uid). as_own x a.parameters.profile a (Get f)) u ∙ ap (λ (x : Profile). as_own own x a (Get f)) p
 is_own own profile a (Set f) u p = ap (λ (x : Uid). as_own x a.parameters.profile a (Set f)) u ∙ ap (λ (x : Profile). as_own own x a (Set f)) p
 
-field_alike : (p q : Parameters) → SameDevices p q → control_field q ≡ control_field p
-field_alike p q same = ap (λ (n : ℕ). to_be_bytes w16 (cond (n == 0) 0 0x0002)) same.subs
+-- what is told of so many sub-devices, and of a profile
+abbrev told_of : ℕ → Profile → List ℕ
+told_of subs p =
+    to_be_bytes w16 (cond (subs == 0) 0 0x0002 + cond p.particulars.mute_reply.boot_loader 0x0004 0 + cond p.particulars.mute_reply.proxied_device 0x0008 0)
+    ++ binding_slots p.particulars.mute_reply.binding
+
+told_alike : (p q : Parameters) → SameDevices p q → mute_data q ≡ mute_data p
+told_alike p q same = ap (λ (n : ℕ). told_of n q.profile) same.subs ∙ ap (λ (x : Profile). told_of (length p.subs) x) same.profile
 
 at_request : (own : Uid) (profile : Profile) (a c : Account) (f : Frame) (r : Request) → request_of own f ≡ r → Facts f r → SameDevices a.parameters c.parameters → is_wrong (verdict_beside own (Some f) (as_own own profile a r) (as_own own profile c r)) ≡ false
 at_request own profile a c f Ignored e facts same = refl
 at_request own profile a c f (Branch lower upper) e facts same = branch_at own f lower upper (is_muted a.mutings) (is_muted c.mutings) (is_between lower own upper) refl (ap asked_with e)
 at_request own profile a c f (Muting muted g) e facts same =
-    subst (λ (field : List ℕ). is_wrong (verdict_beside own (Some f) (answer_with own g 0 (ack g (control_field a.parameters))) (answer_with own g 0 (ack g field))) ≡ false) (sym (field_alike a.parameters c.parameters same))
-    (same_reply own (Some f) (answer_with own g 0 (ack g (control_field a.parameters))))
+    subst (λ (slots : List ℕ). is_wrong (verdict_beside own (Some f) (answer_with own g 0 (ack g (mute_data a.parameters))) (answer_with own g 0 (ack g slots))) ≡ false) (sym (told_alike a.parameters c.parameters same))
+    (same_reply own (Some f) (answer_with own g 0 (ack g (mute_data a.parameters))))
 at_request own profile a c f (Get g) e facts same =
     subst (λ (x : Frame). is_wrong (verdict_beside own (Some f) (as_own own profile a (Get x)) (as_own own profile c (Get x))) ≡ false) (sym facts.0)
     (let v = got a.parameters f.sub f.pid f.body in

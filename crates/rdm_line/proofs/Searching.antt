@@ -1,9 +1,9 @@
 -- A line of devices, as a search sees it.
-use Rattle.std.proofs.Common.{◌≡◌, ◌≢◌, ◌↔◌, ℕ, zero, suc, ◌-◌, ◌^◌, ◌<◌, ◌≤◌, Bool, true, false, List, [], ◌∷◌, ◌++◌, length, get_or, map, Option, Some, None, refl, sym, ap, subst, ◌∙◌, inl, inr, ◌⊎◌, cond, arith}
+use Rattle.std.proofs.Common.{◌≡◌, ◌≢◌, ◌↔◌, ℕ, zero, suc, ◌+◌, ◌-◌, ◌^◌, ◌<◌, ◌≤◌, Bool, true, false, List, [], ◌∷◌, ◌++◌, length, get_or, map, Option, Some, None, refl, sym, ap, subst, ◌∙◌, inl, inr, ◌⊎◌, cond, arith}
 use Rattle.std.specs.Prelude.{◌&&◌, ◌||◌, ◌==◌, not, max, fold, is_some, IsSome, AllPairs, All, Contains, slice_index, bit_or, if◌then◌else◌}
 use Rattle.std.specs.Option.{option_to_list, option_and_then}
 use Rattle.std.specs.Int.{w16, to_be_bytes}
-use Rattle.std.proofs.lemmas.Bool.{cond-true, cond-false, cond_both, false≢true, or_left, or_right, cases_Bool, both_ways}
+use Rattle.std.proofs.lemmas.Bool.{cond-true, cond-false, false≢true, or_left, or_right, cases_Bool, both_ways}
 use Rattle.std.proofs.lemmas.List.{length-append, get_or-append_right}
 use Rattle.std.proofs.lemmas.Nat.{from_be_bytes-to_be_bytes_2, from_be_bytes-to_be_bytes_4}
 use Rattle.std.proofs.lemmas.List.FromFn.{length-map-range_with_len}
@@ -20,7 +20,7 @@ use Rattle.rdm_search.specs.Line.{Fixture, IsDevice, IsCalled, IsHeard, calls, c
 use Rattle.rdm_search.specs.Requests.{request_frame}
 use Rattle.rdm_responder.specs.History.{History, Heard, then_event}
 use Rattle.rdm_responder.specs.Requests.{Request, Ignored, Branch, Muting, Set, discovery_of, get_of, request_of, request_in}
-use Rattle.rdm_responder.specs.Rules.{Account, account_of, account_with, answer_to, is_between, is_muted, reply_of, Response, answer_with, control_field}
+use Rattle.rdm_responder.specs.Rules.{Account, account_of, account_with, answer_to, is_between, is_muted, reply_of, Response, answer_with, binding_slots, mute_data}
 use Rattle.rdm_params.specs.Device.Parameters.{Parameters}
 use Rattle.rdm_search.specs.Answers.{mute_answer, is_mute_answer, found_in}
 use Rattle.rdm_responder.proofs.Accounts.{account_of-then}
@@ -237,7 +237,7 @@ branches_are_heard hs rule source tn low high fit_low fit_high fits =
 some_same : (f g : Frame) → Some f ≡ Some g → f ≡ g
 some_same f g e = cc
 
--- the response of a device with that control field
+-- the response of a device that tells this
 abbrev answer_frame : Uid → Uid → ℕ → List ℕ → Frame
 answer_frame own source tn body = record { dst = source; src = own; tn = tn; port = 0; count = 0; sub = 0; class = 0x11; pid = 0x0002; body = body }
 
@@ -245,19 +245,37 @@ answer_by : (own : Uid) (f : Frame) (count : ℕ) (r : Response) → is_broadcas
 unfolding answer_with
 answer_by own f count r single = cond-false (is_broadcast f.dst) _ _ single
 
-few_bytes : (n i : ℕ) → n < 256 → slice_index (to_be_bytes w16 n) i < 2 ^ 8
-few_bytes n zero small = omega (arith, small)
-few_bytes n (suc zero) small = omega (arith, small)
-few_bytes n (suc (suc i)) small = omega arith
+-- two slots or eight, each of which is a byte
+told_bytes : (field : ℕ) (binding : Option Uid) (i : ℕ) → slice_index (to_be_bytes w16 field ++ binding_slots binding) i < 2 ^ 8
+told_bytes field binding zero = omega arith
+told_bytes field binding (suc zero) = omega arith
+told_bytes field None (suc (suc i)) = omega arith
+told_bytes field (Some uid) (suc (suc zero)) = omega arith
+told_bytes field (Some uid) (suc (suc (suc zero))) = omega arith
+told_bytes field (Some uid) (suc (suc (suc (suc zero)))) = omega arith
+told_bytes field (Some uid) (suc (suc (suc (suc (suc zero))))) = omega arith
+told_bytes field (Some uid) (suc (suc (suc (suc (suc (suc zero)))))) = omega arith
+told_bytes field (Some uid) (suc (suc (suc (suc (suc (suc (suc zero))))))) = omega arith
+told_bytes field (Some uid) (suc (suc (suc (suc (suc (suc (suc (suc i)))))))) = omega arith
 
-control_bytes : (p : Parameters) (i : ℕ) → slice_index (control_field p) i < 2 ^ 8
-control_bytes p i =
-    cond_both (length p.subs == 0) 0 0x0002 (λ (n : ℕ). slice_index (to_be_bytes w16 n) i < 2 ^ 8) (λ none. few_bytes 0 i (omega arith)) (λ some. few_bytes 2 i (omega arith))
+told_long : (field : ℕ) (binding : Option Uid) → length (to_be_bytes w16 field ++ binding_slots binding) ≤ 8
+told_long field None = omega arith
+told_long field (Some uid) = omega arith
 
-control_long : (p : Parameters) → length (control_field p) ≡ 2
-control_long p = refl
+-- the number of the control field
+abbrev field_of : Parameters → ℕ
+field_of p =
+    (if length p.subs == 0 then 0 else 0x0002)
+    + (if p.profile.particulars.mute_reply.boot_loader then 0x0004 else 0)
+    + (if p.profile.particulars.mute_reply.proxied_device then 0x0008 else 0)
 
-answer_fits : (own source : Uid) (tn : ℕ) (p : Parameters) → IsUid own → IsUid source → tn < 2 ^ 8 → IsFrame (answer_frame own source tn (control_field p))
+mute_bytes : (p : Parameters) (i : ℕ) → slice_index (mute_data p) i < 2 ^ 8
+mute_bytes p i = told_bytes (field_of p) p.profile.particulars.mute_reply.binding i
+
+mute_long : (p : Parameters) → length (mute_data p) ≤ 231
+mute_long p = (let few = told_long (field_of p) p.profile.particulars.mute_reply.binding in omega (arith, few))
+
+answer_fits : (own source : Uid) (tn : ℕ) (p : Parameters) → IsUid own → IsUid source → tn < 2 ^ 8 → IsFrame (answer_frame own source tn (mute_data p))
 answer_fits own source tn p fits fits' small = record {
   dst = fits';
   src = fits;
@@ -267,8 +285,8 @@ answer_fits own source tn p fits fits' small = record {
   sub = omega arith;
   class = omega arith;
   pid = omega arith;
-  body = (let n = control_long p in omega (arith, n));
-  data_slots = control_bytes p;
+  body = mute_long p;
+  data_slots = mute_bytes p;
 }
 
 own_answer : (u : Uid) (source : Uid) (tn : ℕ) (body : List ℕ) → IsFrame (answer_frame u source tn body) → IsSome (mute_answer u (frame_text (answer_frame u source tn body)))
@@ -278,13 +296,13 @@ own_answer u source tn body fits =
     ∙ ap (λ o. is_some o) (cond-true (is_mute_answer u f) _ _ ((uid_decides u u).1 refl))
 
 -- what the device that is muted answers
-mute_reply : (source : Uid) (tn : ℕ) (uid : Uid) → IsFrame (request_frame source tn (Mute uid)) → is_broadcast uid ≡ false → (h : History) → h.setup.uid ≡ uid → reply_of h (frame_text (request_frame source tn (Mute uid))) ≡ Some (frame_text (answer_frame uid source tn (control_field (account_of h).parameters)))
+mute_reply : (source : Uid) (tn : ℕ) (uid : Uid) → IsFrame (request_frame source tn (Mute uid)) → is_broadcast uid ≡ false → (h : History) → h.setup.uid ≡ uid → reply_of h (frame_text (request_frame source tn (Mute uid))) ≡ Some (frame_text (answer_frame uid source tn (mute_data (account_of h).parameters)))
 mute_reply source tn uid fits single h own =
     let f = request_frame source tn (Mute uid) in
     let addressed : is_addressed h.setup.uid uid ≡ true = or_left (same_uid uid h.setup.uid) _ ((uid_decides uid h.setup.uid).1 (sym own)) in
     reply_by h f (Muting true f) fits (cond-true (is_addressed h.setup.uid uid) (by_class f) Ignored addressed ∙ mute_is source tn uid)
     ∙ answer_by (account_of h).setup.uid f 0 _ single
-    ∙ ap (λ (u : Uid). Some (frame_text (answer_frame u source tn (control_field (account_of h).parameters)))) (ap (λ s. s.uid) (setup_of h) ∙ own)
+    ∙ ap (λ (u : Uid). Some (frame_text (answer_frame u source tn (mute_data (account_of h).parameters)))) (ap (λ s. s.uid) (setup_of h) ∙ own)
 
 silent : frame_in [] ≡ None
 unfolding frame_in frame_text head_slots
@@ -317,11 +335,11 @@ owner (h ∷ hs) u (suc k) lt e = (let rest = owner hs u k (omega (arith, lt)) e
 mute_there : (hs : List History) (rule : Collision) (source : Uid) (tn : ℕ) (uid : Uid) → AllPairs (λ u v. u ≢ v) (uids_of hs) → IsFrame (request_frame source tn (Mute uid)) → IsDevice uid → (h : History) → Contains hs h → h.setup.uid ≡ uid → IsSome (mute_answer uid (on_wire rule [] (answers (frame_text (request_frame source tn (Mute uid))) hs)).1)
 mute_there hs rule source tn uid apart fits device h there own =
     let f = request_frame source tn (Mute uid) in
-    let a = answer_frame uid source tn (control_field (account_of h).parameters) in
+    let a = answer_frame uid source tn (mute_data (account_of h).parameters) in
     let one = one_answers hs h (frame_text f) f apart there (read_again f fits) device.one own
     ∙ ap (λ (o : Option (List ℕ)). option_to_list o) (mute_reply source tn uid fits device.one h own) in
     subst (λ (xs : List (List ℕ)). IsSome (mute_answer uid (on_wire rule [] xs).1)) (sym one)
-    (own_answer uid source tn (control_field (account_of h).parameters) (answer_fits uid source tn (account_of h).parameters device.fits fits.src fits.tn))
+    (own_answer uid source tn (mute_data (account_of h).parameters) (answer_fits uid source tn (account_of h).parameters device.fits fits.src fits.tn))
 
 is_device : (us : List Uid) (u : Uid) → All (λ v. IsDevice v) us → Contains us u → IsDevice u
 is_device us u all there = subst IsDevice there.2 (all there.0 u there.1)

@@ -25,7 +25,7 @@ use Rattle.rdm_responder.specs.Runs.{IsArrival, outbox_of}
 use Rattle.rdm_collector.specs.Collecting.{State, command_request, after_ask, poll_request, after_poll, heard_in}
 use Rattle.rdm_collector.specs.Polling as polling
 use Rattle.rdm_collector.specs.Polling.{IsRun, given_between}
-use Rattle.rdm_collector.specs.Polling.Event.{Arrived as Enters, Polled}
+use Rattle.rdm_collector.specs.Polling.Event.{Arrived as Enters, Replaced, Polled}
 use Rattle.rdm_collector.specs.Recording.{NoLossLaw}
 use Rattle.rdm_collector.proofs.PollingRuns.{laws_hold}
 use Rattle.rdm_collector.proofs.ReadBack.{read_as_itself}
@@ -36,7 +36,7 @@ use Rattle.rdm_bus.specs.declared.event.Step.TheVariants.{Ask, Collect, Arrive, 
 use Rattle.rdm_bus.specs.BusRun.{Start, controller_at, came, replied, transaction}
 use Rattle.rdm_bus.specs.BusLaws.{message_in, dispensed_by, recorded, recorded_by, recorded_if, carried, queue_of}
 use Rattle.rdm_bus.proofs.BusRuns.{Reaches, Whole, Lost, Spoilt, reaches, history_with, command_leaves, hears, reply_is, IsPolledBy, poll_reaches, not_reserved, allowed}
-use Rattle.rdm_bus.proofs.Queues.{queue_at, within, heard_nothing, report_arrived, Changing, Says, Stays, value_changed}
+use Rattle.rdm_bus.proofs.Queues.{queue_at, within, heard_nothing, report_arrived, Changing, Says, Renews, Stays, value_changed}
 use Rattle.rdm_line.specs.declared.collision.Collision.{Collision}
 use Rattle.rdm_line.specs.Collisions.{on_wire}
 use Rattle.rdm_line.specs.Hearing.{answers, heard_by, hears as is_for}
@@ -210,6 +210,7 @@ own_arrival s r m kept is = record {
 
 own_change : (s : Start) (change : Change) (message : Option Message) → Changing s.history change → IsOwn s (Changed change message)
 own_change s change message (Says m is) = record { polls = Enters (carried m) ∷ []; run = (tt, tt); queue = sym is; unanswered = refl; said_is = refl; noted_is = refl }
+own_change s change message (Renews waiting is) = record { polls = Replaced waiting ∷ []; run = (tt, tt); queue = sym is; unanswered = refl; said_is = refl; noted_is = refl }
 own_change s change message (Stays is) = record { polls = []; run = tt; queue = sym is; unanswered = refl; said_is = refl; noted_is = refl }
 
 -- what is on the line is what the two alone would see

@@ -1,7 +1,8 @@
 -- Each message that waits or was given is a response to a GET or a SET.
-use Rattle.std.proofs.Common.{◌≡◌, ℕ, zero, suc, ◌==◌, ◌||◌, Bool, true, false, cond, List, [], ◌∷◌, ◌++◌, Option, Some, None, refl, sym, subst}
-use Rattle.std.specs.Prelude.{fold, unwrap_or, nat_lt, length}
-use Rattle.std.specs.List.{AllByRecursion, slice_get}
+use Rattle.std.proofs.Common.{◌≡◌, ℕ, zero, suc, ◌==◌, ◌||◌, Bool, true, false, cond, List, [], ◌∷◌, ◌++◌, take, drop, Option, Some, None, refl, sym, subst}
+use Rattle.std.specs.Prelude.{fold, unwrap_or, nat_lt, length, slice_set}
+use Rattle.std.specs.List.{AllByRecursion, position, slice_get}
+use Rattle.std.specs.Option.{option_map_or}
 use Rattle.rdm_frame.specs.Reading.{frame_in}
 use Rattle.rdm_frame.specs.declared.message.Message.{Message}
 use Rattle.rdm_frame.specs.declared.status.Entry.{Entry as StatusEntry}
@@ -20,11 +21,11 @@ use Rattle.rdm_params.specs.Jobs.Thresholds.{notes}
 use Rattle.rdm_params.specs.Jobs.Work.{worker_at}
 use Rattle.rdm_outbox.specs.Account as outbox
 use Rattle.rdm_outbox.specs.Jobs.{has_room, after_arrive}
-use Rattle.rdm_outbox.specs.Messages.{is_last, last_or, last_of, next_of, after_next, after_drop, dispensed, status_dispensed}
+use Rattle.rdm_outbox.specs.Messages.{is_last, last_or, last_of, next_of, after_next, in_place_of_same, tell_of_same, after_drop, dispensed, status_dispensed}
 use Rattle.rdm_outbox.specs.Statuses.{can_note, after_note, status_message, status_now, after_status_now}
 use Rattle.rdm_responder.specs.History.{Event, Heard, Arrived, Changed, Placed, Noted, Restored, Dropped, History}
 use Rattle.rdm_responder.specs.Requests.{Request, Ignored, Branch, Muting, Get, Set, request_in}
-use Rattle.rdm_responder.specs.Rules.{Account, account_of, account_before, account_after, account_with, outbox_after, after_message, after_entry, after_outcome}
+use Rattle.rdm_responder.specs.Rules.{Account, account_of, account_before, account_after, account_with, outbox_after, newest_only, after_message, after_entry, after_outcome}
 use Rattle.rdm_responder.specs.Runs.{outbox_of}
 
 -- of the command class of a response to a GET or a SET
@@ -139,9 +140,42 @@ change_is : (p : Parameters) (change : Change) → MayBeResponse (change_message
 unfolding change_message
 change_is p change = may_be (can_change p change) (told (after_change p change) change) refl
 
-posted : (b : outbox.Account) (message : Option Message) → MayBeResponse message → AreResponses b → AreResponses (after_message b message)
-posted b None is are = are
-posted b (Some m) is are = record { arrived = all_push b.arrived m are.arrived is; answers = are.answers }
+-- those of them that stay
+all_front : (n : ℕ) (ms : List Message) → AllByRecursion IsResponse ms → AllByRecursion IsResponse (take n ms)
+all_front zero ms all = tt
+all_front (suc n) [] all = tt
+all_front (suc n) (x ∷ ms) all = (all.0, all_front n ms all.1)
+
+all_behind : (n : ℕ) (ms : List Message) → AllByRecursion IsResponse ms → AllByRecursion IsResponse (drop n ms)
+all_behind zero ms all = all
+all_behind (suc n) [] all = tt
+all_behind (suc n) (x ∷ ms) all = all_behind n ms all.1
+
+all_set : (m : Message) (ms : List Message) (i : ℕ) → IsResponse m → AllByRecursion IsResponse ms → AllByRecursion IsResponse (slice_set ms i m)
+all_set m [] i is all = tt
+all_set m (x ∷ ms) zero is all = (is, all.1)
+all_set m (x ∷ ms) (suc i) is all = (all.0, all_set m ms i is all.1)
+
+placed_by : (m : Message) (ms : List Message) (place : Option ℕ) → IsResponse m → AllByRecursion IsResponse ms → AllByRecursion IsResponse (option_map_or (λ i. slice_set ms i m) place (ms ++ m ∷ []))
+placed_by m ms None is all = all_push ms m all is
+placed_by m ms (Some i) is all = all_set m ms i is all
+
+all_placed : (m : Message) (ms : List Message) → IsResponse m → AllByRecursion IsResponse ms → AllByRecursion IsResponse (in_place_of_same m ms)
+all_placed m ms is all = placed_by m ms (position (tell_of_same m) ms) is all
+
+all_joined : (ms ns : List Message) → AllByRecursion IsResponse ms → AllByRecursion IsResponse ns → AllByRecursion IsResponse (ms ++ ns)
+all_joined [] ns all more = more
+all_joined (x ∷ ms) ns all more = (all.0, all_joined ms ns all.1 more)
+
+posted : (newest : Bool) (b : outbox.Account) (message : Option Message) → MayBeResponse message → AreResponses b → AreResponses (after_message newest b message)
+posted newest b None is are = are
+posted true b (Some m) is are = record {
+  arrived =
+      all_joined (take b.gone b.arrived) (in_place_of_same m (drop b.gone b.arrived)) (all_front b.gone b.arrived are.arrived)
+      (all_placed m (drop b.gone b.arrived) is (all_behind b.gone b.arrived are.arrived));
+  answers = are.answers;
+}
+posted false b (Some m) is are = record { arrived = all_push b.arrived m are.arrived is; answers = are.answers }
 
 -- ---- a history
 
@@ -150,7 +184,7 @@ happened a (Heard bytes) are = requested a (request_in a.setup.uid (frame_in byt
 happened a (Arrived r) are =
     ended (after_commit a.parameters r.job.work r.outcome) _ r.job.work r.outcome
     (arrived a.outbox (worker_at a.outbox.workers r.job.work) (committed a.parameters r.job.work r.outcome) (committed_is a.parameters r.job.work r.outcome) are)
-happened a (Changed change) are = posted a.outbox (change_message a.parameters change) (change_is a.parameters change) are
+happened a (Changed change) are = posted (newest_only a.parameters) a.outbox (change_message a.parameters change) (change_is a.parameters change) are
 happened a (Placed sub pid bytes) are = are
 happened a (Noted entry) are = noted a.parameters a.outbox entry are
 happened a (Restored image) are = are

@@ -2,4 +2,5 @@ pub mod Entries
 pub mod Fronts
 pub mod KeptNumbers
 pub mod Marks
+pub mod Newest
 pub mod Outboxes

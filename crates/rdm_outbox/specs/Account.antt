@@ -1,4 +1,5 @@
--- What has happened to an outbox since it was made: lists that only grow, and a count. E1.20 sections 10.3.1 and 10.3.2.
+-- What has happened to an outbox since it was made: lists that only grow, and a count. Only a message that still waits can
+-- leave its list again: a newer one that tells of the same may take its place. E1.20 sections 10.3.1 and 10.3.2.
 use Rattle.std.specs.Prelude.{ℕ, Bool, List, []}
 use Rattle.rdm_frame.specs.declared.message.Message.{Message}
 use Rattle.rdm_frame.specs.declared.status.Entry.{Entry}
@@ -14,9 +15,9 @@ pub record Noted : Type 0 where
 
 -- The greatest number of jobs and messages together, of jobs for each worker, and of entries that wait to be shown; the
 -- number of each worker's first job; which worker carries out which work; the jobs that were accepted; the workers whose
--- jobs have ended, one for each; the messages that arrived, and how many of them have left the queue, since the controller
--- fetched them or the firmware dropped them; the status entries; and the answers to QUEUED_MESSAGE and STATUS_MESSAGES,
--- repeats left out. All of them in order of time.
+-- jobs have ended, one for each; the messages that arrived, without those that a newer one replaced while they waited, and
+-- how many of them have left the queue, since the controller fetched them or the firmware dropped them; the status entries;
+-- and the answers to QUEUED_MESSAGE and STATUS_MESSAGES, repeats left out. All of them in order of time.
 pub record Account : Type 0 where
   pub q : ℕ
   pub jobs : ℕ

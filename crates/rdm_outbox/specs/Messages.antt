@@ -1,7 +1,8 @@
 -- The next message and the last one: what QUEUED_MESSAGE and STATUS_MESSAGES are answered. E1.20 sections 10.3.1 and
 -- 10.3.2.
-use Rattle.std.specs.Prelude.{◌+◌, Bool, true, false, List, [], ◌∷◌, ◌++◌, length, nat_lt, unwrap_or, if◌then◌else◌}
-use Rattle.std.specs.List.{slice_get}
+use Rattle.std.specs.Prelude.{◌+◌, ◌==◌, ◌&&◌, Bool, true, false, List, [], ◌∷◌, ◌++◌, length, slice_set, take, drop, nat_lt, unwrap_or, if◌then◌else◌}
+use Rattle.std.specs.List.{position, slice_get}
+use Rattle.std.specs.Option.{option_map_or}
 use Rattle.rdm_frame.specs.declared.message.Message.{Message}
 use Rattle.rdm_commands.specs.declared.jobs.ask.Ask.{Ask}
 use Rattle.rdm_commands.specs.declared.jobs.ask.Ask.TheVariants.{None, Last, Advisory, Warning, Error}
@@ -38,6 +39,18 @@ after_next a ask =
 -- The account after a message was posted that tells of no job. No job ends by it.
 abbrev pub after_post : Account → Message → Account
 after_post a message = record a { arrived = a.arrived ++ message ∷ [] }
+
+-- whether two messages tell of the same: of one parameter, of one device, in one class
+abbrev pub tell_of_same : Message → Message → Bool
+tell_of_same m n = (m.class == n.class) && (m.pid == n.pid) && (m.sub == n.sub)
+
+-- these messages, with this one in the place of the first that tells of the same, or behind them if none does
+abbrev pub in_place_of_same : Message → List Message → List Message
+in_place_of_same message ms = option_map_or (λ i. slice_set ms i message) (position (tell_of_same message) ms) (ms ++ message ∷ [])
+
+-- The account after a message was posted that takes the place of one which still waits and tells of the same, if one does.
+abbrev pub after_post_newest : Account → Message → Account
+after_post_newest a message = record a { arrived = take a.gone a.arrived ++ in_place_of_same message (drop a.gone a.arrived) }
 
 -- The account after the firmware dropped the oldest message that waits. It was no answer, so no controller knows it. If none
 -- waits, nothing changes.

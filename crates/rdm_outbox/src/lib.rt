@@ -2,7 +2,8 @@
 //! messages that tell of their ends, the status entries, and the message that was given last.
 //!
 //! `Outbox` answers QUEUED_MESSAGE and STATUS_MESSAGES. What it has to answer is told by an account of all that happened
-//! to it, over lists that only grow, in `specs/`.
+//! to it, over lists that only grow, in `specs/`. Only a message that still waits may be replaced, by a newer one that tells
+//! of the same.
 #![tactic(auto)]
 
 mod dispensed;
@@ -12,6 +13,7 @@ mod job;
 mod kept;
 mod laws;
 mod outbox;
+mod queue;
 mod ring;
 mod settings;
 mod showing;

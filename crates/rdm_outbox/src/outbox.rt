@@ -4,7 +4,7 @@ ghost use Rattle.std.specs.Prelude.{◌≡◌, ◌↔◌, ◌<◌, ◌≤◌, �
 ghost use Rattle.circular_buffer.specs.Buffer.{buffer};
 ghost use Rattle.rdm_outbox.specs.Account.{Account, account_before};
 ghost use Rattle.rdm_outbox.specs.Jobs.{outstanding_of, outstanding_count, waiting_of, has_place, reserved, after_reserve, after_arrive};
-ghost use Rattle.rdm_outbox.specs.Messages.{is_last, last_of, next_of, after_next, after_post, after_drop, dispensed, after_dispense, status_dispensed, after_status};
+ghost use Rattle.rdm_outbox.specs.Messages.{is_last, last_of, next_of, after_next, after_post, in_place_of_same, after_post_newest, after_drop, dispensed, after_dispense, status_dispensed, after_status};
 ghost use Rattle.rdm_outbox.specs.Shows.{Shows};
 ghost use Rattle.rdm_outbox.specs.Settings.{IsGood, usual_settings};
 ghost use Rattle.rdm_outbox.specs.State.{jobs_at, place_in};
@@ -13,6 +13,7 @@ ghost use Rattle.rdm_outbox.specs.Statuses.{after_clear, can_note, after_note, s
 
 use crate::giving::give;
 use crate::kept::{KeptEntry, keep};
+use crate::queue::put_newest;
 use crate::ring::{drop_first, put};
 use crate::showing::{empty_status, is_last, show_status};
 use crate::{Dispensed, Full, Job, NewError, Settings};
@@ -262,6 +263,19 @@ impl Outbox {
     {
         // By the condition there is room, so no message is overwritten.
         put(&mut self.queue, message);
+    }
+
+    /// Puts a message that tells of no job in the place of the first that still waits and tells of the same: of the same
+    /// parameter, of the same device, in the same class. If none does, it waits behind all, as after `post`. The others stay
+    /// where they are, and a message that was fetched stays what it was. There must be room for one more, even where one is
+    /// replaced.
+    #[tactic(auto, using(crate::proofs::Newest::one_more))]
+    pub fn post_newest(&mut self, message: Message)
+        requires { IsTrue (place_in self.old) }
+        ensures state { self.new ≡ record self.old { queue = in_place_of_same message self.old.queue } }
+        ensures shows { (a : Account) → Shows self.old a → Shows self.new (after_post_newest a message) }
+    {
+        put_newest(&mut self.queue, message);
     }
 
     /// Drops the oldest message that waits, and returns it: no controller gets it. The last message stays. It is `None`, and

@@ -8,6 +8,7 @@ use rdm_params::{Ask, Entry, Message, Severity, Verb, Work, Worker, Workers};
 use std::alloc::Global;
 use std::process::Abort;
 
+mod newest;
 mod play;
 mod words;
 

@@ -31,7 +31,7 @@ pub use rdm_commands::{
     estimate_of, fits, fitting_worker, worker_at, worker_of,
 };
 pub use rdm_device::{
-    ChoiceName, ChoiceNames, Estimates, Field, Lock, Locks, OwnParameters, ParameterDef,
+    ChoiceName, ChoiceNames, Estimates, Field, Lock, Locks, MuteReply, OwnParameters, ParameterDef,
     Particular, Particulars, Personality, Profile, Rights, SelfTest, SensorDef, Shape, Slot,
     StatusText, Unit, Value, Width, Worker, Workers, write_value,
 };

@@ -1,5 +1,5 @@
 -- The demo profile keeps the rules of a profile.
-use Rattle.std.proofs.Common.{◌≢◌, ℕ, List, ◌<◌, ◌≤◌, [], ◌∷◌, refl, IsTrue, arith, lit<, lit≤}
+use Rattle.std.proofs.Common.{◌≢◌, ℕ, ◌<◌, ◌≤◌, [], ◌∷◌, refl, IsTrue, arith, lit<, lit≤}
 use Rattle.std.specs.List.{AllPairs}
 use Rattle.std.proofs.lemmas.List.Elements.{All-from_recursion}
 use Rattle.std.proofs.lemmas.List.Kept.{AllPairs-cons}
@@ -68,5 +68,6 @@ demo_can_be_made subs few = (
     own = none_good;
     without = none_left_out;
     locks = none_locked;
+    binding = refl;
   },
 )

@@ -1,16 +1,19 @@
 -- `==` of profiles and of their parts.
-use Rattle.std.proofs.Common.{◌≡◌, ℕ, ℤ, Bool, true, false, ◌&&◌, List, refl, ap}
+use Rattle.std.proofs.Common.{◌≡◌, ℕ, ℤ, Bool, true, false, ◌&&◌, List, Option, Some, None, refl, ap}
 use Rattle.std.specs.Bool.{Decides, beq}
 use Rattle.std.specs.Ordering.{int_eq}
+use Rattle.std.specs.Option.{option_eq}
 use Rattle.std.specs.Prelude.{nat_eq}
 use Rattle.std.proofs.lemmas.Bool.Decides.{Decides-and, Decides-like, Decides-eqb, Decides-int_eq}
 use Rattle.std.proofs.lemmas.Slice.Eq.{slice_eq-Decides}
 use Rattle.arrayvec.specs.declared.array_vec.ArrayVec.{ArrayVec}
+use Rattle.rdm_frame.specs.declared.uid.Uid.{Uid}
 use Rattle.rdm_profile.specs.declared.profile.estimates.Estimates.{Estimates}
 use Rattle.rdm_profile.specs.declared.profile.choices.ChoiceName.{ChoiceName}
 use Rattle.rdm_profile.specs.declared.profile.fields.Field.{Field}
 use Rattle.rdm_profile.specs.declared.profile.locks.Lock.{Lock}
 use Rattle.rdm_profile.specs.declared.profile.fields.Width.{Width}
+use Rattle.rdm_profile.specs.declared.profile.mute_reply.MuteReply.{MuteReply}
 use Rattle.rdm_profile.specs.declared.profile.Personality.{Personality}
 use Rattle.rdm_profile.specs.declared.profile.Profile.{Profile}
 use Rattle.rdm_profile.specs.declared.profile.SelfTest.{SelfTest}
@@ -36,6 +39,8 @@ use Rattle.rdm_profile.specs.contracts.profile.choices.ChoiceNamePartialEq.TheIm
 use Rattle.rdm_profile.specs.contracts.profile.fields.FieldPartialEq.TheImpl as fields
 use Rattle.rdm_profile.specs.contracts.profile.locks.LockPartialEq.TheImpl as locks
 use Rattle.rdm_profile.specs.contracts.profile.fields.WidthPartialEq.TheImpl as widths
+use Rattle.rdm_profile.specs.contracts.profile.mute_reply.MuteReplyPartialEq.TheImpl as mute_replies
+use Rattle.rdm_frame.specs.contracts.uid.UidPartialEq.TheImpl as uids
 use Rattle.rdm_profile.specs.contracts.profile.workers.WorkerPartialEq.TheImpl as worker
 use Rattle.rdm_profile.specs.contracts.profile.workers.WorkersPartialEq.TheImpl as workers
 use Rattle.rdm_profile.specs.contracts.profile.own.ParameterDefPartialEq.TheImpl as parameter_defs
@@ -181,6 +186,26 @@ estimates_decide a b =
     (λ e. (ap (λ (x : Estimates). x.lamp) e, (ap (λ (x : Estimates). x.power) e, (ap (λ (x : Estimates). x.self_test) e, ap (λ (x : Estimates). x.sensor) e))))
     (number a.lamp b.lamp (number a.power b.power (number a.self_test b.self_test (Decides-eqb a.sensor b.sensor))))
 
+-- ---- what is told when a device is muted
+
+maybe_decides : {A : Type 0} {E : A → A → Bool} → IsByValue E → IsByValue (option_eq E)
+maybe_decides D None None = (λ e. refl, λ e. refl)
+maybe_decides D None (Some y) = (λ e. absurd cc, λ e. absurd cc)
+maybe_decides D (Some x) None = (λ e. absurd cc, λ e. absurd cc)
+maybe_decides D (Some x) (Some y) = (λ t. ap Some ((D x y).0 t), λ e. (D x y).1 (cc))
+
+abbrev mute_reply_of : Bool → Bool → Option Uid → MuteReply
+mute_reply_of a0 a1 a2 = record { proxied_device = a0; boot_loader = a1; binding = a2 }
+
+same_mute_reply : {a0 b0 a1 b1 : Bool} {a2 b2 : Option Uid} → (a0 ≡ b0) × ((a1 ≡ b1) × (a2 ≡ b2)) → mute_reply_of a0 a1 a2 ≡ mute_reply_of b0 b1 b2
+same_mute_reply e = rw (e.0, e.1.0, e.1.1) refl
+
+pub mute_reply_decides : IsByValue uids.ghosts.eq → IsByValue mute_replies.ghosts.eq
+mute_reply_decides uid a b =
+    Decides-like _ same_mute_reply
+    (λ e. (ap (λ (x : MuteReply). x.proxied_device) e, (ap (λ (x : MuteReply). x.boot_loader) e, ap (λ (x : MuteReply). x.binding) e)))
+    (Decides-and _ _ (bools a.proxied_device b.proxied_device) (Decides-and _ _ (bools a.boot_loader b.boot_loader) (maybe_decides uid a.binding b.binding)))
+
 -- ---- workers
 
 abbrev workers_of : Worker → Worker → Worker → Worker → Workers
@@ -197,20 +222,20 @@ workers_decide each a b =
 
 -- ---- particulars
 
-abbrev particular_of : List ParameterDef → List ChoiceName → List Lock → ArrayVec ℕ 36 (Unit {0}) → ℕ → Estimates → Particular
-particular_of a0 a1 a2 a3 a4 a5 =
-    record { own = a0; choices = a1; locks = a2; without = a3; more_slots = a4; estimates = a5 }
+abbrev particular_of : List ParameterDef → List ChoiceName → List Lock → ArrayVec ℕ 36 (Unit {0}) → ℕ → Estimates → MuteReply → Bool → Particular
+particular_of a0 a1 a2 a3 a4 a5 a6 a7 =
+    record { own = a0; choices = a1; locks = a2; without = a3; more_slots = a4; estimates = a5; mute_reply = a6; newest_only = a7 }
 
-same_particular : {a0 b0 : List ParameterDef} {a1 b1 : List ChoiceName} {a2 b2 : List Lock} {a3 b3 : ArrayVec ℕ 36 (Unit {0})} {a4 b4 : ℕ} {a5 b5 : Estimates}
-    → (a0 ≡ b0) × ((a1 ≡ b1) × ((a2 ≡ b2) × ((a3 ≡ b3) × ((a4 ≡ b4) × (a5 ≡ b5)))))
-    → particular_of a0 a1 a2 a3 a4 a5 ≡ particular_of b0 b1 b2 b3 b4 b5
-same_particular e = rw (e.0, e.1.0, e.1.1.0, e.1.1.1.0, e.1.1.1.1.0, e.1.1.1.1.1) refl
+same_particular : {a0 b0 : List ParameterDef} {a1 b1 : List ChoiceName} {a2 b2 : List Lock} {a3 b3 : ArrayVec ℕ 36 (Unit {0})} {a4 b4 : ℕ} {a5 b5 : Estimates} {a6 b6 : MuteReply} {a7 b7 : Bool}
+    → (a0 ≡ b0) × ((a1 ≡ b1) × ((a2 ≡ b2) × ((a3 ≡ b3) × ((a4 ≡ b4) × ((a5 ≡ b5) × ((a6 ≡ b6) × (a7 ≡ b7)))))))
+    → particular_of a0 a1 a2 a3 a4 a5 a6 a7 ≡ particular_of b0 b1 b2 b3 b4 b5 b6 b7
+same_particular e = rw (e.0, e.1.0, e.1.1.0, e.1.1.1.0, e.1.1.1.1.0, e.1.1.1.1.1.0, e.1.1.1.1.1.1.0, e.1.1.1.1.1.1.1) refl
 
-pub particular_decides : IsByValue parameter_defs.ghosts.eq → IsByValue choice_names.ghosts.eq → IsByValue locks.ghosts.eq → IsByValue estimates.ghosts.eq → IsByValue particulars.ghosts.eq
-particular_decides parameter choice lock estimate a b =
+pub particular_decides : IsByValue parameter_defs.ghosts.eq → IsByValue choice_names.ghosts.eq → IsByValue locks.ghosts.eq → IsByValue estimates.ghosts.eq → IsByValue mute_replies.ghosts.eq → IsByValue particulars.ghosts.eq
+particular_decides parameter choice lock estimate mute_reply a b =
     Decides-like _ same_particular
-    (λ e. (ap (λ (p : Particular). p.own) e, (ap (λ (p : Particular). p.choices) e, (ap (λ (p : Particular). p.locks) e, (ap (λ (p : Particular). p.without) e, (ap (λ (p : Particular). p.more_slots) e, ap (λ (p : Particular). p.estimates) e))))))
-    (Decides-and _ _ (slice_eq-Decides parameter a.own b.own _ refl) (Decides-and _ _ (slice_eq-Decides choice a.choices b.choices _ refl) (Decides-and _ _ (slice_eq-Decides lock a.locks b.locks _ refl) (Decides-and _ _ (list_decides 36 Decides-eqb a.without b.without) (number a.more_slots b.more_slots (estimate a.estimates b.estimates))))))
+    (λ e. (ap (λ (p : Particular). p.own) e, (ap (λ (p : Particular). p.choices) e, (ap (λ (p : Particular). p.locks) e, (ap (λ (p : Particular). p.without) e, (ap (λ (p : Particular). p.more_slots) e, (ap (λ (p : Particular). p.estimates) e, (ap (λ (p : Particular). p.mute_reply) e, ap (λ (p : Particular). p.newest_only) e))))))))
+    (Decides-and _ _ (slice_eq-Decides parameter a.own b.own _ refl) (Decides-and _ _ (slice_eq-Decides choice a.choices b.choices _ refl) (Decides-and _ _ (slice_eq-Decides lock a.locks b.locks _ refl) (Decides-and _ _ (list_decides 36 Decides-eqb a.without b.without) (number a.more_slots b.more_slots (Decides-and _ _ (estimate a.estimates b.estimates) (Decides-and _ _ (mute_reply a.mute_reply b.mute_reply) (bools a.newest_only b.newest_only))))))))
 
 -- ---- profiles
 

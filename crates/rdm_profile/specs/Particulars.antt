@@ -1,10 +1,11 @@
 -- What sets a device apart from one that has the standard's parameters as the table has them.
-use Rattle.std.specs.Prelude.{[], Option, Some, None}
+use Rattle.std.specs.Prelude.{false, [], Option, Some, None}
 use Rattle.std.specs.declared.boxed.Box.{Box}
 use Rattle.rdm_profile.specs.declared.profile.particulars.Particular.{Particular}
 use Rattle.rdm_profile.specs.Estimates.{usual}
+use Rattle.rdm_profile.specs.MuteReply.{plain_reply}
 
--- nothing: no parameters of the maker's own, none left out, and the usual estimates
+-- nothing: no parameters of the maker's own, none left out, the usual estimates, nothing told when it is muted, and each message waits
 abbrev pub usual_particular : Particular
 usual_particular = record {
   own = [];
@@ -13,6 +14,8 @@ usual_particular = record {
   without = record { items = [] };
   more_slots = 0;
   estimates = usual;
+  mute_reply = plain_reply;
+  newest_only = false;
 }
 
 -- what there is, or nothing

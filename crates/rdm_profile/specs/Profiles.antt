@@ -8,6 +8,7 @@ use Rattle.rdm_profile.specs.declared.profile.Unit.{Unit as DeviceUnit}
 use Rattle.rdm_profile.specs.Choices.{agrees, is_needed, comes_before}
 use Rattle.rdm_profile.specs.Locks.{has_state, can_open, can_hold}
 use Rattle.rdm_profile.specs.LeftOut.{is_optional, leave_no_need}
+use Rattle.rdm_profile.specs.MuteReply.{can_bind}
 use Rattle.rdm_profile.specs.OwnParameters.{is_addable, has_limits, can_start, has_good_fields}
 use Rattle.rdm_profile.specs.Standards.{follows}
 
@@ -95,7 +96,7 @@ pub record MayBeLeftOut (pids : List ℕ) : Type 0 where
 
 -- Both units are good; there is a language; no self test is numbered 0 or 255 and no two alike; no two status IDs
 -- are alike; the number of presets isn't the one that stands for all of them; those parameters that are left out may be; the
--- parameters of the maker's own are good; and so are the locks.
+-- parameters of the maker's own are good; so are the locks; and a binding UID is that of one port.
 pub record IsGoodProfile (p : Profile) : Type 0 where
   pub root : IsGoodUnit p.root (root_slots p)
   pub sub : IsGoodUnit p.sub 512
@@ -107,6 +108,7 @@ pub record IsGoodProfile (p : Profile) : Type 0 where
   pub own : AreGoodParameters p.particulars.own p.particulars.choices
   pub without : MayBeLeftOut p.particulars.without.items
   pub locks : AreGoodLocks p.particulars.without.items p.particulars.own p.particulars.locks
+  pub binding : IsTrue (can_bind p.particulars.mute_reply.binding)
 
 -- It is good, and has no more sub-devices than there can be.
 abbrev pub CanBeMade : Profile → Type 0

@@ -3,10 +3,11 @@
 ghost use Rattle.std.specs.Prelude.{◌≡◌, ◌↔◌, IsTrue};
 
 use crate::{
-    ChoiceName, Estimates, Field, Lock, ParameterDef, Particular, Particulars, Personality,
-    Profile, Rights, SelfTest, SensorDef, Shape, Slot, StatusText, Unit, Value, Width, Worker,
-    Workers,
+    ChoiceName, Estimates, Field, Lock, MuteReply, ParameterDef, Particular, Particulars,
+    Personality, Profile, Rights, SelfTest, SensorDef, Shape, Slot, StatusText, Unit, Value, Width,
+    Worker, Workers,
 };
+use rdm_frame::uids_are_equal_by_value;
 
 /// Two personalities are equal by `==` exactly when their footprints and their names are.
 pub fn personalities_are_equal_by_value()
@@ -86,6 +87,13 @@ pub fn estimates_are_equal_by_value()
     ensures { (a b : Estimates) → IsTrue (⟦<Estimates as PartialEq>⟧.eq a b) ↔ (a ≡ b) }
 {}
 
+/// Two values of `MuteReply` are equal by `==` exactly when each of their fields is.
+pub fn mute_replies_are_equal_by_value()
+    ensures { (a b : MuteReply) → IsTrue (⟦<MuteReply as PartialEq>⟧.eq a b) ↔ (a ≡ b) }
+{
+    uids_are_equal_by_value();
+}
+
 /// Two values of `Worker` are equal by `==` exactly when they are the same.
 pub fn workers_are_equal_by_value()
     ensures { (a b : Worker) → IsTrue (⟦<Worker as PartialEq>⟧.eq a b) ↔ (a ≡ b) }
@@ -106,6 +114,7 @@ pub fn particulars_are_equal_by_value()
     choice_names_are_equal_by_value();
     locks_are_equal_by_value();
     estimates_are_equal_by_value();
+    mute_replies_are_equal_by_value();
 }
 
 /// Two profiles are equal by `==` exactly when each of their fields is.

@@ -8,6 +8,7 @@ pub(crate) mod fields;
 pub(crate) mod left_out;
 pub(crate) mod locks;
 mod making;
+pub(crate) mod mute_reply;
 pub(crate) mod own;
 pub(crate) mod particulars;
 pub(crate) mod workers;

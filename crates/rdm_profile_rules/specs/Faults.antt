@@ -3,11 +3,13 @@ use Rattle.std.specs.Prelude.{◌≢◌, ℕ, ◌<◌, ◌≤◌, List, length, 
 use Rattle.rdm_profile.specs.declared.profile.Profile.{Profile}
 use Rattle.rdm_profile.specs.declared.profile.choices.ChoiceName.{ChoiceName}
 use Rattle.rdm_profile.specs.declared.profile.own.ParameterDef.{ParameterDef}
+use Rattle.rdm_profile.specs.declared.profile.particulars.Particular.{Particular}
 use Rattle.rdm_profile.specs.declared.profile.Unit.{Unit as DeviceUnit}
 use Rattle.rdm_profile_rules.specs.declared.faults.ProfileFault.{ProfileFault}
-use Rattle.rdm_profile_rules.specs.declared.faults.ProfileFault.TheVariants.{SubDevices, Presets, Personalities, Start, RootFootprint, SubFootprint, Languages, TestNumber, TwinTests, TwinStatusTexts, LeftOut, LeftOutNeeded, ParameterCount, ParameterPid, ParameterLimits, ParameterStart, ParameterOrder, ParameterFields, ParameterStandard, ParameterNames, ParameterLocks, ParameterLockState, ParameterLocked}
+use Rattle.rdm_profile_rules.specs.declared.faults.ProfileFault.TheVariants.{SubDevices, Presets, Personalities, Start, RootFootprint, SubFootprint, Languages, TestNumber, TwinTests, TwinStatusTexts, LeftOut, LeftOutNeeded, ParameterCount, ParameterPid, ParameterLimits, ParameterStart, ParameterOrder, ParameterFields, ParameterStandard, ParameterNames, ParameterLocks, ParameterLockState, ParameterLocked, BindingUid}
 use Rattle.rdm_profile.specs.LeftOut.{leave_no_need}
-use Rattle.rdm_profile.specs.Profiles.{root_slots, AreOptional, HaveFreePids, HaveLimits, HaveStarts, Ascend, HaveFields, FollowStandards, Agree, HaveStates, CanOpen, CanHold}
+use Rattle.rdm_profile.specs.MuteReply.{can_bind}
+use Rattle.rdm_profile.specs.Profiles.{root_slots, AreGoodLocks, AreGoodParameters, AreOptional, HaveFreePids, HaveLimits, HaveStarts, Ascend, HaveFields, FollowStandards, Agree, HaveStates, CanOpen, CanHold, MayBeLeftOut}
 
 -- The start address is one of DMX512. Section 10.6.3.
 abbrev pub IsStart : DeviceUnit → Type 0
@@ -38,6 +40,7 @@ Keeps ParameterNames p = Agree p.particulars.own p.particulars.choices
 Keeps ParameterLocks p = HaveStates p.particulars.own p.particulars.locks
 Keeps ParameterLockState p = CanOpen p.particulars.own
 Keeps ParameterLocked p = CanHold p.particulars.without.items p.particulars.own p.particulars.locks
+Keeps BindingUid p = IsTrue (can_bind p.particulars.mute_reply.binding)
 
 -- the rules that don't speak of parameters, kept
 abbrev pub KeepsOthers : Profile → Type 0
@@ -58,6 +61,10 @@ KeepsListed p =
 -- those, and the rules of what the slots of these parameters say and of their names
 abbrev pub KeepsNamed : Profile → Type 0
 KeepsNamed p = KeepsListed p × Keeps ParameterFields p × Keeps ParameterStandard p × Keeps ParameterNames p
+
+-- those, and the rules of locks: all that speak of parameters
+abbrev pub KeepsParameters : Profile → Type 0
+KeepsParameters p = KeepsNamed p × Keeps ParameterLocks p × Keeps ParameterLockState p × Keeps ParameterLocked p
 
 -- the rules before it, kept
 abbrev pub KeepsBefore : ProfileFault → Profile → Type 0
@@ -92,6 +99,7 @@ KeepsBefore ParameterNames p = KeepsListed p × Keeps ParameterFields p × Keeps
 KeepsBefore ParameterLocks p = KeepsNamed p
 KeepsBefore ParameterLockState p = KeepsNamed p × Keeps ParameterLocks p
 KeepsBefore ParameterLocked p = KeepsNamed p × Keeps ParameterLocks p × Keeps ParameterLockState p
+KeepsBefore BindingUid p = KeepsParameters p
 
 -- It is the first rule that the profile breaks.
 abbrev pub IsFirstBroken : ProfileFault → Profile → Type 0
@@ -101,6 +109,10 @@ IsFirstBroken fault p = KeepsBefore fault p × ¬ Keeps fault p
 abbrev pub KeepsOwn : List ParameterDef → Type 0
 KeepsOwn ds =
     (length ds ≤ 32) × HaveFreePids ds × HaveLimits ds × HaveStarts ds × Ascend ds × HaveFields ds × FollowStandards ds
+
+-- what of this speaks of parameters keeps the rules: those that are left out, those of the maker's own with their names, and the locks
+abbrev pub AreGood : Particular → Type 0
+AreGood x = MayBeLeftOut x.without.items × AreGoodParameters x.own x.choices × AreGoodLocks x.without.items x.own x.locks
 
 -- a profile with so many slots beside those that it describes
 abbrev pub with_slots : Profile → ℕ → Profile

@@ -1,14 +1,13 @@
 //! Which profiles a device can be made with.
 
 ghost use Rattle.std.specs.Prelude.{◌≡◌, ◌≢◌, ◌↔◌, ◌<◌, ◌≤◌, IsTrue, All, AllPairs};
-ghost use Rattle.rdm_profile_rules.specs.Faults.{with_slots};
-ghost use Rattle.rdm_profile.specs.Profiles.{IsGoodUnit, IsGoodProfile, MayBeLeftOut, AreGoodParameters, AreGoodLocks, root_slots};
+ghost use Rattle.rdm_profile_rules.specs.Faults.{AreGood, with_slots};
+ghost use Rattle.rdm_profile.specs.MuteReply.{can_bind};
+ghost use Rattle.rdm_profile.specs.Profiles.{IsGoodUnit, IsGoodProfile, root_slots};
 
 use crate::faults::parameter_fault;
 use rdm_frame::standard::MOST_DMX_SLOTS;
-use rdm_profile::{
-    ChoiceName, Lock, ParameterDef, Personality, Profile, SelfTest, StatusText, Unit,
-};
+use rdm_profile::{MuteReply, Particulars, Personality, Profile, SelfTest, StatusText, Unit};
 
 /// Whether a device can be made with the profile.
 pub fn is_good(profile: &Profile) -> bool
@@ -21,21 +20,40 @@ pub fn is_good(profile: &Profile) -> bool
         && tests_differ(profile.tests.as_slice())
         && statuses_differ(profile.status_texts.as_slice())
         && profile.presets < 65535
-        && are_good(
-            profile.particulars.without(),
-            profile.particulars.own(),
-            profile.particulars.choices(),
-            profile.particulars.locks(),
-        )
+        && can_differ(&profile.particulars)
 }
 
-/// Whether a device can lack the parameters with these PIDs, and have these of the maker's own, with these locks.
-fn are_good(without: &[u16], own: &[ParameterDef], choices: &[ChoiceName], locks: &[Lock]) -> bool
-    ensures { IsTrue result ↔ (MayBeLeftOut without.now × AreGoodParameters own.now choices.now × AreGoodLocks without.now own.now locks.now) }
+/// Whether what sets a device apart can: it can lack these parameters, and have those of the maker's own, with these locks; and its
+/// binding UID is that of one port.
+fn can_differ(particulars: &Particulars) -> bool
+    ensures { IsTrue result ↔ (AreGood particulars.now × IsTrue (can_bind particulars.now.mute_reply.binding)) }
 {
-    match parameter_fault(without, own, choices, locks) {
+    are_good(particulars) && can_bind(&particulars.mute_reply())
+}
+
+/// Whether a device can lack these parameters, and have those of the maker's own, with these locks.
+fn are_good(particulars: &Particulars) -> bool
+    ensures { IsTrue result ↔ AreGood particulars.now }
+{
+    let fault = parameter_fault(
+        particulars.without(),
+        particulars.own(),
+        particulars.choices(),
+        particulars.locks(),
+    );
+    match fault {
         None => true,
         Some(_) => false,
+    }
+}
+
+/// Whether a binding UID, if one is told, is that of one port.
+pub(crate) fn can_bind(reply: &MuteReply) -> bool
+    ensures { result ≡ can_bind reply.now.binding }
+{
+    match reply.binding {
+        Some(uid) => !uid.is_broadcast(),
+        None => true,
     }
 }
 

@@ -1,17 +1,20 @@
 //! Which rule a profile breaks.
 
 ghost use Rattle.std.specs.Prelude.{◌≡◌, ◌↔◌, ℕ, List, None, IfSome, IsTrue};
-ghost use Rattle.rdm_profile_rules.specs.Faults.{IsFirstBroken, IsStart, KeepsOthers, KeepsLeftOut, KeepsListed, KeepsNamed, KeepsOwn, with_parameters, with_slots};
+ghost use Rattle.rdm_profile_rules.specs.Faults.{IsFirstBroken, IsStart, KeepsOthers, KeepsLeftOut, KeepsListed, KeepsNamed, KeepsOwn, KeepsParameters, with_parameters, with_slots};
+ghost use Rattle.rdm_profile.specs.MuteReply.{can_bind};
 ghost use Rattle.rdm_profile.specs.Profiles.{CanBeMade, MayBeLeftOut, AreGoodParameters, AreGoodLocks, HaveFields, FollowStandards};
 
-use crate::checks::{are_numbered, fit, slots_with, statuses_differ, tests_differ};
+use crate::checks::{are_numbered, can_bind, fit, slots_with, statuses_differ, tests_differ};
 use crate::choice_checks::agree;
 use crate::field_checks::have_fields;
 use crate::locks::{can_hold, can_open, have_states};
 use crate::own_checks::{are_ascending, are_few, have_free_pids, have_limits, have_starts};
 use crate::standards::follow_standards;
 use rdm_frame::standard::{MOST_DMX_SLOTS, MOST_SUB_DEVICES};
-use rdm_profile::{ChoiceName, Lock, ParameterDef, Profile, Unit, are_optional, leave_no_need};
+use rdm_profile::{
+    ChoiceName, Lock, MuteReply, ParameterDef, Profile, Unit, are_optional, leave_no_need,
+};
 
 /// A rule of profiles that is broken, in the order in which they are tested.
 #[derive(Clone, Copy, Debug, PartialEq, Eq)]
@@ -68,6 +71,8 @@ pub enum ProfileFault {
     /// A lock names LOCK_STATE, which nobody could open again; or a parameter that it can't hold: one that the root has no SET of, or one of
     /// the table that a job carries out, which is LAMP_STATE, POWER_STATE or PERFORM_SELFTEST.
     ParameterLocked,
+    /// The binding UID addresses more than one device (section 7.6).
+    BindingUid,
 }
 
 /// The first rule that the profile breaks, or `None` if it breaks none: a device can be made with it then.
@@ -85,9 +90,9 @@ pub fn profile_fault(profile: &Profile) -> Option<ProfileFault>
 }
 
 /// The first rule that the profile would break if it had so many slots beside those that it describes, left out the parameters with these
-/// PIDs, and had these of the maker's own with these names of choices, and no others, or `None` if it would break none; its locks are as
-/// they are. So they can be judged before there is memory for them.
-#[tactic(auto, using(crate::proofs::FirstFaults::made, crate::proofs::FirstFaults::keeps_others, crate::proofs::FirstFaults::keeps_parameters))]
+/// PIDs, and had these of the maker's own with these names of choices, and no others, or `None` if it would break none; what else sets it
+/// apart is as it is. So they can be judged before there is memory for them.
+#[tactic(auto, using(crate::proofs::FirstFaults::made, crate::proofs::FirstFaults::keeps_others, crate::proofs::FirstFaults::keeps_parameters, crate::proofs::FirstFaults::keeps_binding, crate::proofs::FirstFaults::keeps_before))]
 pub fn profile_fault_with(
     profile: &Profile,
     more_slots: u16,
@@ -98,9 +103,24 @@ pub fn profile_fault_with(
     ensures good { (result ≡ None) ↔ CanBeMade (with_parameters profile.now more_slots without.now own.now choices.now) }
     ensures first { IfSome result (λ fault. IsFirstBroken fault (with_parameters profile.now more_slots without.now own.now choices.now)) }
 {
-    match other_fault(profile, more_slots) {
+    if let Some(fault) = other_fault(profile, more_slots) {
+        return Some(fault);
+    }
+    match parameter_fault(without, own, choices, profile.particulars.locks()) {
         Some(fault) => Some(fault),
-        None => parameter_fault(without, own, choices, profile.particulars.locks()),
+        None => mute_fault(&profile.particulars.mute_reply()),
+    }
+}
+
+/// The rule that is broken by what the answer to DISC_MUTE tells, if one is.
+pub fn mute_fault(reply: &MuteReply) -> Option<ProfileFault>
+    ensures good { (result ≡ None) ↔ IsTrue (can_bind reply.now.binding) }
+    ensures first { (p : Profile) → p.particulars.mute_reply ≡ reply.now → KeepsParameters p → IfSome result (λ fault. IsFirstBroken fault p) }
+{
+    if can_bind(reply) {
+        None
+    } else {
+        Some(ProfileFault::BindingUid)
     }
 }
 

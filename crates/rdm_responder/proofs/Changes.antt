@@ -1,6 +1,6 @@
 -- A change at the fixture's own menu, a value that is placed, an entry that is noted, values that are restored and a message
 -- that is dropped, and what they make of an account.
-use Rattle.std.proofs.Common.{◌≡◌, ℕ, List, Option, None, Result, Ok, Err, refl, sym, ap, subst, ◌∙◌}
+use Rattle.std.proofs.Common.{◌≡◌, ℕ, Bool, List, Option, None, Result, Ok, Err, refl, sym, ap, subst, ◌∙◌}
 use Rattle.std.specs.Prelude.{IsOk, OnOk, OnErr}
 use Rattle.std.specs.Result.{result_err}
 use Rattle.rdm_frame.specs.declared.message.Message.{Message}
@@ -15,15 +15,17 @@ use Rattle.rdm_outbox.specs.Messages.{after_drop}
 use Rattle.rdm_outbox.specs.Shows as outbox_state
 use Rattle.rdm_outbox.specs.State as state
 use Rattle.rdm_responder.specs.History.{Placed, Noted, Restored, Dropped}
-use Rattle.rdm_responder.specs.Rules.{Account, account_after, account_after_change, after_entry, after_message}
+use Rattle.rdm_responder.specs.Rules.{Account, account_after, account_after_change, newest_only, after_entry, after_message}
 use Rattle.rdm_responder.specs.StandsFor.{State, Shows}
 
-pub shows_change : (old new : State) (a : Account) (change : Change) (m : Option Message) → Shows old a → m ≡ change_message old.parameters change → new.uid ≡ old.uid → new.parameters ≡ after_change old.parameters change → new.muted ≡ old.muted → outbox_state.Shows new.outbox (after_message a.outbox m) → Shows new (account_after_change a change)
-shows_change old new a change m shows message uid parameters muted outbox = record {
+pub shows_change : (old new : State) (a : Account) (change : Change) (m : Option Message) (newest : Bool) → Shows old a → newest ≡ newest_only old.parameters → m ≡ change_message old.parameters change → new.uid ≡ old.uid → new.parameters ≡ after_change old.parameters change → new.muted ≡ old.muted → outbox_state.Shows new.outbox (after_message newest a.outbox m) → Shows new (account_after_change a change)
+shows_change old new a change m newest shows is_newest message uid parameters muted outbox = record {
   uid = uid ∙ shows.uid;
   parameters = parameters ∙ ap (λ (p : Parameters). after_change p change) shows.parameters;
   muted = muted ∙ shows.muted;
-  outbox = subst (λ (n : Option Message). outbox_state.Shows new.outbox (after_message a.outbox n)) (message ∙ ap (λ (p : Parameters). change_message p change) shows.parameters) outbox;
+  outbox =
+      subst (λ (b : Bool). outbox_state.Shows new.outbox (after_message b a.outbox (change_message a.parameters change))) (is_newest ∙ ap newest_only shows.parameters)
+      (subst (λ (n : Option Message). outbox_state.Shows new.outbox (after_message newest a.outbox n)) (message ∙ ap (λ (p : Parameters). change_message p change) shows.parameters) outbox);
 }
 
 pub shows_place : (old new : State) (a : Account) (sub pid : ℕ) (bytes : List ℕ) → Shows old a → new.uid ≡ old.uid → new.parameters ≡ after_place old.parameters sub pid bytes → new.muted ≡ old.muted → new.outbox ≡ old.outbox → Shows new (account_after a (Placed sub pid bytes))

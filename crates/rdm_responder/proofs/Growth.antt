@@ -21,11 +21,11 @@ use Rattle.rdm_outbox.specs.declared.job.Job.{Job}
 use Rattle.rdm_outbox.specs.declared.job.Full.TheVariants.{NoRoom}
 use Rattle.rdm_outbox.specs.Account as outbox
 use Rattle.rdm_outbox.specs.Jobs.{next_job, has_room, after_arrive}
-use Rattle.rdm_outbox.specs.Messages.{is_last, next_of, after_next, after_post, after_drop}
+use Rattle.rdm_outbox.specs.Messages.{is_last, next_of, after_next, after_post, after_post_newest, after_drop}
 use Rattle.rdm_outbox.specs.Statuses.{after_clear, can_note, after_status_now}
 use Rattle.rdm_responder.specs.History.{History, Event, Heard, Arrived, Changed, Placed, Noted, Restored, Dropped, then_event}
 use Rattle.rdm_responder.specs.Requests.{Request, Ignored, Branch, Muting, Get, Set, request_in}
-use Rattle.rdm_responder.specs.Rules.{Account, account_of, account_after, account_with, job_with, outbox_after, started_by, after_message, after_entry, after_outcome}
+use Rattle.rdm_responder.specs.Rules.{Account, account_of, account_after, account_with, job_with, outbox_after, started_by, newest_only, after_message, after_entry, after_outcome}
 use Rattle.rdm_responder.specs.Runs.{outbox_of}
 use Rattle.rdm_responder.proofs.Accounts.{account_of-then}
 
@@ -109,9 +109,10 @@ reported b worker m = record { accepted = sym (append-nil b.accepted); ended = r
 
 -- ---- a change at the device's menu
 
-posted : (b : outbox.Account) (message : Option Message) → Grows b (after_message b message) [] []
-posted b None = still b
-posted b (Some m) = stays b (after_post b m) refl refl refl refl refl
+posted : (newest : Bool) (b : outbox.Account) (message : Option Message) → Grows b (after_message newest b message) [] []
+posted newest b None = still b
+posted true b (Some m) = stays b (after_post_newest b m) refl refl refl refl refl
+posted false b (Some m) = stays b (after_post b m) refl refl refl refl refl
 
 -- ---- an event of a history
 
@@ -137,7 +138,7 @@ workers_at a Dropped = []
 pub event_grows : (a : Account) (e : Event) → Grows a.outbox (account_after a e).outbox (option_to_list (job_at a e)) (workers_at a e)
 event_grows a (Heard bytes) = requested a (request_in a.setup.uid (frame_in bytes))
 event_grows a (Arrived r) = and_then a.outbox _ _ [] [] (worker_at a.outbox.workers r.job.work ∷ []) [] (reported a.outbox (worker_at a.outbox.workers r.job.work) _) (ends _ _ r.job.work r.outcome)
-event_grows a (Changed change) = posted a.outbox (change_message a.parameters change)
+event_grows a (Changed change) = posted (newest_only a.parameters) a.outbox (change_message a.parameters change)
 event_grows a (Placed sub pid bytes) = still a.outbox
 event_grows a (Noted entry) = noted_entry a.parameters a.outbox entry
 event_grows a (Restored image) = still a.outbox

@@ -31,12 +31,13 @@ use Rattle.rdm_outbox.specs.State.{HasRoom}
 use Rattle.rdm_outbox.specs.Statuses.{can_note, most_shown, show, unshown, after_status_now}
 use Rattle.rdm_outbox.proofs.Entries.{unshown_after_clear}
 use Rattle.rdm_outbox.proofs.Marks.{show_only_marks}
+use Rattle.rdm_outbox.proofs.Newest.{fewer_newest}
 use Rattle.rdm_responder.specs.History as history
 use Rattle.rdm_responder.specs.History.{Event, Heard, Arrived, Changed, Placed, Restored, Dropped}
 use Rattle.rdm_responder.specs.Lawful.{MayHappen, AreLawful}
 use Rattle.rdm_responder.specs.Laws.{LawfulHistoriesHaveRoom}
 use Rattle.rdm_responder.specs.Requests.{Request, Ignored, Branch, Muting, Get, Set, request_in}
-use Rattle.rdm_responder.specs.Rules.{Account, account_of, account_before, account_after, account_with, after_message, after_entry, after_outcome, outbox_after}
+use Rattle.rdm_responder.specs.Rules.{Account, account_of, account_before, account_after, account_with, newest_only, after_message, after_entry, after_outcome, outbox_after}
 use Rattle.rdm_responder.proofs.Shown.{IsWithin, either, after_event, ended_one}
 
 -- how many of a worker's jobs have ended
@@ -184,9 +185,15 @@ outcome_fits p b work Done fits = fits
 outcome_fits p b work (Reading v) fits = fits
 outcome_fits p b work (Failed severity id v1 v2) fits = entry_fits p b _ fits
 
-message_fits : (b : outbox.Account) (message : Option Message) → IsWithin b → has_place b ≡ true → Fits b → Fits (after_message b message)
-message_fits b None is place fits = fits
-message_fits b (Some m) is place fits = record {
+message_fits : (newest : Bool) (b : outbox.Account) (message : Option Message) → IsWithin b → has_place b ≡ true → Fits b → Fits (after_message newest b message)
+message_fits newest b None is place fits = fits
+message_fits true b (Some m) is place fits = record {
+  most = fits.most;
+  room = omega (arith, has_a_place b is place, fewer_newest b m);
+  jobs = fits.jobs;
+  unshown = fits.unshown;
+}
+message_fits false b (Some m) is place fits = record {
   most = fits.most;
   room = omega (arith, has_a_place b is place, length-append b.arrived (m ∷ []));
   jobs = fits.jobs;
@@ -198,7 +205,7 @@ event_fits a (Heard bytes) may is fits = request_fits a (request_in a.setup.uid 
 event_fits a (Arrived r) may is fits =
     outcome_fits _ _ r.job.work r.outcome
     (arrive_fits a.outbox (worker_at a.outbox.workers r.job.work) (committed a.parameters r.job.work r.outcome) (there_are_two_workers a.outbox.workers r.job.work) fits)
-event_fits a (Changed change) may is fits = message_fits a.outbox (change_message a.parameters change) is may fits
+event_fits a (Changed change) may is fits = message_fits (newest_only a.parameters) a.outbox (change_message a.parameters change) is may fits
 event_fits a (Placed sub pid bytes) may is fits = fits
 event_fits a (history.Noted entry) may is fits = entry_fits a.parameters a.outbox entry fits
 event_fits a (Restored image) may is fits = fits

@@ -24,12 +24,13 @@ use Rattle.rdm_outbox.specs.Messages.{is_last, last_of, after_next, after_drop}
 use Rattle.rdm_outbox.specs.Shows as outbox_shows
 use Rattle.rdm_outbox.specs.State as outbox_state
 use Rattle.rdm_outbox.specs.Statuses.{can_note, unshown}
+use Rattle.rdm_outbox.proofs.Newest.{gone_newest}
 use Rattle.rdm_outbox.proofs.Outboxes.{ended_sum, within_more}
 use Rattle.rdm_responder.specs.History.{Event, Heard, Arrived, Changed, Placed, Noted, Restored, Dropped}
 use Rattle.rdm_responder.specs.Lawful.{MayHappen, AreLawful}
 use Rattle.rdm_responder.specs.Laws.{CanBeShown, LawfulHistoriesCanBeShown, LawfulHistoriesHaveOneState}
 use Rattle.rdm_responder.specs.Requests.{Request, Ignored, Branch, Muting, Get, Set, request_in}
-use Rattle.rdm_responder.specs.Rules.{Account, account_of, account_before, account_after, account_with, after_message, after_entry, after_outcome, is_muted, outbox_after}
+use Rattle.rdm_responder.specs.Rules.{Account, account_of, account_before, account_after, account_with, newest_only, after_message, after_entry, after_outcome, is_muted, outbox_after}
 use Rattle.rdm_responder.specs.StandsFor.{State, Shows}
 use Rattle.rdm_responder.proofs.Arrivals.{some_outstanding}
 
@@ -110,16 +111,17 @@ after_the_outcome p b work (Failed severity id v1 v2) is = after_the_entry p b _
 
 -- ---- an event, and a history
 
-after_posting : (b : outbox.Account) (message : Option Message) → IsWithin b → IsWithin (after_message b message)
-after_posting b None is = is
-after_posting b (Some m) is = record { ended = is.ended; given = omega (arith, is.given, length-append b.arrived (m ∷ [])) }
+after_posting : (newest : Bool) (b : outbox.Account) (message : Option Message) → IsWithin b → IsWithin (after_message newest b message)
+after_posting newest b None is = is
+after_posting true b (Some m) is = record { ended = is.ended; given = gone_newest b m is.given }
+after_posting false b (Some m) is = record { ended = is.ended; given = omega (arith, is.given, length-append b.arrived (m ∷ [])) }
 
 pub after_event : (a : Account) (e : Event) → MayHappen a e → IsWithin a.outbox → IsWithin (account_after a e).outbox
 after_event a (Heard bytes) may is = after_request a (request_in a.setup.uid (frame_in bytes)) is
 after_event a (Arrived r) may is =
     after_the_outcome _ _ r.job.work r.outcome
     (arrives a.outbox (worker_at a.outbox.workers r.job.work) (committed a.parameters r.job.work r.outcome) (some_outstanding (outstanding_of a.outbox (worker_at a.outbox.workers r.job.work)) r.job may.oldest) is)
-after_event a (Changed change) may is = after_posting a.outbox (change_message a.parameters change) is
+after_event a (Changed change) may is = after_posting (newest_only a.parameters) a.outbox (change_message a.parameters change) is
 after_event a (Placed sub pid bytes) may is = is
 after_event a (Noted entry) may is = after_the_entry a.parameters a.outbox entry is
 after_event a (Restored image) may is = is

@@ -5,7 +5,7 @@ use Rattle.std.specs.Result.{result_ok}
 use Rattle.rdm_frame.specs.declared.uid.Uid.{Uid}
 use Rattle.rdm_frame.specs.declared.frame.Frame.{Frame}
 use Rattle.rdm_frame.specs.Addressing.{is_broadcast}
-use Rattle.rdm_frame.specs.FrameText.{frame_text}
+use Rattle.rdm_frame.specs.FrameText.{frame_text, uid_slots}
 use Rattle.rdm_frame.specs.UidNumber.{uid_number}
 use Rattle.rdm_frame.specs.Reading.{frame_in}
 use Rattle.rdm_frame.specs.Discovery.{branch_reply}
@@ -32,7 +32,7 @@ use Rattle.rdm_params.specs.Jobs.Thresholds.{notes}
 use Rattle.rdm_outbox.specs.declared.job.Job.{Job}
 use Rattle.rdm_outbox.specs.Account as outbox
 use Rattle.rdm_outbox.specs.Jobs.{has_room, reserved, after_reserve, after_arrive, waiting_of}
-use Rattle.rdm_outbox.specs.Messages.{after_post, after_drop, dispensed, after_dispense, status_dispensed, after_status}
+use Rattle.rdm_outbox.specs.Messages.{after_post, after_post_newest, after_drop, dispensed, after_dispense, status_dispensed, after_status}
 use Rattle.rdm_outbox.specs.Statuses.{after_note, after_clear}
 use Rattle.rdm_saved.specs.Restoring.{restored}
 use Rattle.rdm_responder.specs.declared.report.Report.{Report}
@@ -131,9 +131,22 @@ abbrev pub answered : Bool → List ℕ → Option (List ℕ)
 answered true bytes = Some bytes
 answered false bytes = None
 
--- The control field tells whether there are sub-devices. Section 7.6.
+-- The control field tells whether there are sub-devices, and what the profile says: whether the device can do nothing until firmware is
+-- uploaded to it, and whether a proxy answers for it. Section 7.6.
 abbrev pub control_field : Parameters → List ℕ
-control_field p = to_be_bytes w16 (if length p.subs == 0 then 0 else 0x0002)
+control_field p = to_be_bytes w16 (
+    (if length p.subs == 0 then 0 else 0x0002)
+    + (if p.profile.particulars.mute_reply.boot_loader then 0x0004 else 0)
+    + (if p.profile.particulars.mute_reply.proxied_device then 0x0008 else 0))
+
+-- a binding UID, if there is one
+abbrev pub binding_slots : Option Uid → List ℕ
+binding_slots None = []
+binding_slots (Some uid) = uid_slots uid
+
+-- What a device tells when it is muted or un-muted: the control field, and its binding UID if it has one. Section 7.6.
+abbrev pub mute_data : Parameters → List ℕ
+mute_data p = control_field p ++ binding_slots p.profile.particulars.mute_reply.binding
 
 -- a UID between two others, both ends included
 abbrev pub is_between : Uid → Uid → Uid → Bool
@@ -148,7 +161,7 @@ abbrev pub answer_to : Account → Request → Option (List ℕ)
 answer_to a Ignored = None
 answer_to a (Branch lower upper) =
     if not (is_muted a.mutings) && is_between lower a.setup.uid upper then Some (branch_reply a.setup.uid) else None
-answer_to a (Muting muted f) = answer_with a.setup.uid f 0 (ack f (control_field a.parameters))
+answer_to a (Muting muted f) = answer_with a.setup.uid f 0 (ack f (mute_data a.parameters))
 answer_to a (Get f) = reply_with a.setup.uid a.parameters.profile a.outbox f (got a.parameters f.sub f.pid f.body)
 answer_to a (Set f) = reply_with a.setup.uid a.parameters.profile a.outbox f (answer_to_set a.parameters f.sub f.pid f.body)
 
@@ -184,17 +197,23 @@ account_after_report a r = record a {
   outbox = after_outcome (after_commit a.parameters r.job.work r.outcome) (after_arrive a.outbox (worker_at a.outbox.workers r.job.work) (committed a.parameters r.job.work r.outcome)) r.job.work r.outcome;
 }
 
--- the account of jobs and messages after the message of a change, if it has one, was queued
-abbrev pub after_message : outbox.Account → Option Message → outbox.Account
-after_message b None = b
-after_message b (Some message) = after_post b message
+-- whether the message of a change takes the place of one that still waits and tells of the same: the profile says so
+abbrev pub newest_only : Parameters → Bool
+newest_only p = p.profile.particulars.newest_only
+
+-- the account of jobs and messages after the message of a change, if it has one, was queued: in the place of one that tells
+-- of the same, if the profile asks for that
+abbrev pub after_message : Bool → outbox.Account → Option Message → outbox.Account
+after_message newest b None = b
+after_message true b (Some message) = after_post_newest b message
+after_message false b (Some message) = after_post b message
 
 -- A change makes of the parameters what a SET of the same value would, and its message is queued. If that SET would be
 -- out of range nothing changes.
 abbrev pub account_after_change : Account → Change → Account
 account_after_change a change = record a {
   parameters = after_change a.parameters change;
-  outbox = after_message a.outbox (change_message a.parameters change);
+  outbox = after_message (newest_only a.parameters) a.outbox (change_message a.parameters change);
 }
 
 -- What the firmware places changes the values alone. An entry that it tells is noted as that of a failed job is. What it

@@ -12,6 +12,8 @@ mod firmware;
 mod identify;
 mod judge;
 mod making;
+mod muting;
+mod newest;
 mod panel;
 mod parameters;
 mod play;

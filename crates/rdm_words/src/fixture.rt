@@ -5,6 +5,7 @@ ghost use Rattle.rdm_words.specs.FixtureWords.{SaysFixture, uid_line, model_word
 ghost use Rattle.rdm_words.specs.Plain.{IsPlain};
 
 mod added;
+mod muting;
 mod slow;
 
 use crate::data::known::Facts;
@@ -12,6 +13,7 @@ use crate::data::sensors::put_range;
 use crate::tables::parameters::parameter;
 use crate::text::put_shown;
 use added::{put_added, put_choice_name, put_lock};
+use muting::put_muting;
 use rdm_device::{Profile, SensorDef, Slot, Unit};
 use rdm_frame::digits::put_digits;
 use rdm_frame::{Text, Uid};
@@ -226,7 +228,8 @@ fn put_rest(text: &mut String, profile: &Profile) -> Result<(), AllocError> {
 }
 
 /// The slots that aren't described, the parameters that the fixture adds with what the things are called of which one is chosen and what
-/// locks keep from being set, unusual times and workers of slow commands, and the parameters of the standard that it lacks.
+/// locks keep from being set, unusual times and workers of slow commands, what it tells when it is muted, and the parameters of the standard
+/// that it lacks.
 fn put_own_parts(text: &mut String, profile: &Profile) -> Result<(), AllocError> {
     let more = profile.particulars.more_slots();
     if more > 0 {
@@ -243,6 +246,7 @@ fn put_own_parts(text: &mut String, profile: &Profile) -> Result<(), AllocError>
     }
     put_estimates(text, &profile.particulars.estimates())?;
     put_workers(text, &profile.workers)?;
+    put_muting(text, &profile.particulars)?;
     for pid in profile.particulars.without() {
         let name = parameter(*pid).unwrap_or("parameter");
         writeln!(text, "  no {name} ({pid:04X})")?;

@@ -5,6 +5,7 @@ mod captures;
 mod causes;
 mod choices;
 mod lines;
+mod muting;
 mod own;
 mod requests;
 mod responses;

@@ -22,7 +22,7 @@ pub extern "C" fn felosumay_profile_fault_nonnull(
 ) -> u8
     ensures good { (result ≡ 0) ↔ CanBeMade (profile_in profile.now parameters.now without.now choices.now) }
     ensures broken { IfSome (fault_in result) (λ fault. IsFirstBroken fault (profile_in profile.now parameters.now without.now choices.now)) }
-    ensures numbers { result ≤ 23 }
+    ensures numbers { result ≤ 24 }
     ensures no_parameters { length parameters.now ≡ 0 → (particular_in profile.now parameters.now without.now choices.now).own ≡ [] }
     ensures none_left_out { length without.now ≡ 0 → (particular_in profile.now parameters.now without.now choices.now).without.items ≡ [] }
     ensures no_names { length choices.now ≡ 0 → (particular_in profile.now parameters.now without.now choices.now).choices ≡ [] }
@@ -52,5 +52,6 @@ pub extern "C" fn felosumay_profile_fault_nonnull(
         Some(ProfileFault::ParameterLocks) => 21,
         Some(ProfileFault::ParameterLockState) => 22,
         Some(ProfileFault::ParameterLocked) => 23,
+        Some(ProfileFault::BindingUid) => 24,
     }
 }

@@ -15,7 +15,7 @@ use crate::profile::parameters::{ChoiceNumbers, LockNumbers, ParameterNumbers};
 use crate::profile::{ProfileNumbers, lists};
 use arrayvec::ArrayVec;
 use rdm_device::{
-    ProfileFault, agree, can_hold, can_open, have_states, own_fault, profile_fault,
+    ProfileFault, agree, can_hold, can_open, have_states, mute_fault, own_fault, profile_fault,
     profile_fault_with,
 };
 use rdm_frame::Text;
@@ -77,6 +77,8 @@ fn particulars(
     lists::copy(without, &mut particular.without);
     particular.more_slots = numbers.more_slots;
     particular.estimates = numbers.estimates.estimates();
+    particular.mute_reply = numbers.mute_reply();
+    particular.newest_only = numbers.newest_only != 0;
     Particulars::of(alloc, particular)
 }
 
@@ -108,7 +110,10 @@ pub(crate) fn fault_of(
 {
     match fault_but_own(numbers, without) {
         Some(fault) => Some(fault),
-        None => fault_of_own(parameters, choices, numbers.lock_entries(), without),
+        None => match fault_of_own(parameters, choices, numbers.lock_entries(), without) {
+            Some(fault) => Some(fault),
+            None => mute_fault(&numbers.mute_reply()),
+        },
     }
 }
 

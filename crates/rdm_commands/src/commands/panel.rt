@@ -11,6 +11,13 @@ use rdm_frame::{Body, Message};
 use rdm_table::{Verb, is_in_range, reply_into};
 
 impl Devices {
+    /// Whether the message of a change takes the place of one that still waits and tells of the same, by the profile.
+    pub fn newest_only(&self) -> bool
+        ensures { result ≡ self.now.profile.particulars.newest_only }
+    {
+        self.profile.particulars.newest_only()
+    }
+
     /// Takes over what a person changed at the fixture's own menu, and gives the message that tells a controller: the
     /// response to a GET of the parameter at the root, with the data that it reads now (E1.20 section 10.3.1).
     ///

@@ -1,18 +1,19 @@
 //! What is put into a table, key by key.
 
-ghost use Rattle.std.specs.Prelude.{◌≡◌, ◌≤◌, ◌+◌, ℕ, pos, [], Some, IsOk, IfOk, IfSome, IsTrue, All, length, option_map, codes};
+ghost use Rattle.std.specs.Prelude.{◌≡◌, ◌≤◌, ◌+◌, ℕ, pos, [], None, Some, IsOk, IfOk, IfSome, IsTrue, All, length, option_map, codes};
 ghost use Rattle.toml.specs.Data.{Members, table as table_data, string, integer, boolean};
 ghost use Rattle.toml.specs.View.{view, table_view};
+ghost use Rattle.rdm_profile.specs.MuteReply.{can_bind};
 ghost use Rattle.rdm_profile.specs.Workers.{worker_number};
 ghost use Rattle.rdm_fixture.specs.Describable.{are_printable};
 ghost use Rattle.rdm_fixture_keys.specs.Keys.{may};
 ghost use Rattle.rdm_fixture.specs.Lists.{OfTable, ListAt};
 ghost use Rattle.rdm_fixture_keys.specs.Values as says;
-ghost use Rattle.rdm_fixture.specs.Writing.{with_field, text_field, named_field, label_field, IsPlain};
+ghost use Rattle.rdm_fixture.specs.Writing.{with_field, text_field, flag_field, uid_field, named_field, label_field, IsPlain};
 ghost use Rattle.rdm_standard_names.specs.Names.{greatest_of};
 
 use rdm_device::Worker;
-use rdm_frame::Text;
+use rdm_frame::{Text, Uid};
 use rdm_standard_names::NameKind;
 use rdm_standard_names::slots::PRIMARY_SLOT;
 use std::alloc::{AllocError, Global};
@@ -187,6 +188,22 @@ pub(super) fn put_flag(
     put(alloc, table, key, Some(Value::from(flag)))
 }
 
+/// Puts `true` at the key, or nothing if it isn't so.
+pub(super) fn put_true(
+    alloc: Global,
+    table: &mut Table,
+    key: &str,
+    flag: bool,
+) -> Result<(), AllocError>
+    ensures { IsOk result → table_view table.new ≡ with_field key.now (flag_field flag) (table_view table.old) }
+{
+    if flag {
+        put_flag(alloc, table, key, true)
+    } else {
+        Ok(())
+    }
+}
+
 /// Puts the number of a worker at the key.
 pub(super) fn put_worker(
     alloc: Global,
@@ -228,6 +245,23 @@ pub(super) fn put_text(
     }
     let string = String::from_utf8_lossy(alloc, bytes)?;
     put(alloc, table, key, Some(Value::String(string)))
+}
+
+/// Puts the text of a UID at the key, if there is one.
+pub(super) fn put_uid(
+    alloc: Global,
+    table: &mut Table,
+    key: &str,
+    uid: Option<Uid>,
+) -> Result<(), AllocError>
+    ensures put { IsOk result → table_view table.new ≡ with_field key.now (uid_field uid) (table_view table.old) }
+    ensures says { IsTrue (can_bind uid) → may None says.only_uid (uid_field uid) ≡ Some uid }
+{
+    let Some(uid) = uid else {
+        return Ok(());
+    };
+    let text = format!(in alloc; "{uid}")?;
+    put(alloc, table, key, Some(Value::String(text)))
 }
 
 /// The list of the entries, or nothing if there are none.

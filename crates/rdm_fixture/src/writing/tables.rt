@@ -1,25 +1,27 @@
 //! The table of a fixture.
 
-ghost use Rattle.std.specs.Prelude.{◌≡◌, ◌≤◌, ℕ, Some, IsOk, IfOk, OnOk, IfSome, IsTrue, All, false, length, option_map};
+ghost use Rattle.std.specs.Prelude.{◌≡◌, ◌≤◌, ℕ, None, Some, IsOk, IfOk, OnOk, IfSome, IsTrue, All, false, length, option_map};
 ghost use Rattle.toml.specs.Data.{Members, table as table_data, string, array};
 ghost use Rattle.toml.specs.View.{view, items_view, table_view};
 ghost use Rattle.rdm_frame.specs.Addressing.{is_broadcast};
 ghost use Rattle.rdm_profile.specs.LeftOut.{is_optional};
+ghost use Rattle.rdm_profile.specs.MuteReply.{can_bind};
 ghost use Rattle.rdm_profile.specs.Profiles.{IsGoodUnit, CanBeMade};
 ghost use Rattle.rdm_params.specs.Table.Kinds.{pid_of, kind_named};
 ghost use Rattle.rdm_fixture.specs.Describable.{HasPrintableUnit, CanBeDescribed, is_coded};
 ghost use Rattle.rdm_fixture.specs.Format.{IsFixture, IsUnit, SubDevices, EstimatesAt, WorkersAt, LanguagesAt, parameter_named};
 ghost use Rattle.rdm_fixture.specs.Lists.{ListAt};
+ghost use Rattle.rdm_fixture_keys.specs.Keys.{may};
 ghost use Rattle.rdm_fixture_keys.specs.Values as says;
-ghost use Rattle.rdm_fixture.specs.Writing.{with_field, IsRoot, IsPlain};
+ghost use Rattle.rdm_fixture.specs.Writing.{with_field, with_mute_reply, uid_field, IsRoot, IsPlain};
 
-use super::fields::{list_of, put, put_long, put_text, put_word, put_worker};
+use super::fields::{list_of, put, put_long, put_text, put_true, put_uid, put_word, put_worker};
 use super::sensors::sensors_of;
 use super::units::{root_table, unit_table};
 use crate::fixture::Fixture;
 use arrayvec::ArrayVec;
 use rdm_device::{
-    Estimates, Profile, Workers, choices_of_workers_are_equal_by_value,
+    Estimates, MuteReply, Profile, Workers, choices_of_workers_are_equal_by_value,
     estimates_are_equal_by_value, units_are_equal_by_value,
 };
 use rdm_frame::Uid;
@@ -47,6 +49,13 @@ fn put_rest(alloc: Global, table: &mut Table, fixture: &Fixture) -> Result<(), A
     ensures plain { OnOk result (IsPlain 3 (table_data (table_view table.old)) → IsPlain 5 (table_data (table_view table.new))) }
 {
     let profile = &fixture.profile;
+    put_mute_reply(alloc, table, profile.particulars.mute_reply())?;
+    put_true(
+        alloc,
+        table,
+        "newest_only",
+        profile.particulars.newest_only(),
+    )?;
     put(alloc, table, "uid", Some(uid_of(alloc, fixture.uid)?))?;
     put_long(alloc, table, "boot_software_version_id", profile.boot)?;
     put_text(
@@ -142,6 +151,16 @@ fn put_rest(alloc: Global, table: &mut Table, fixture: &Fixture) -> Result<(), A
         list_of(alloc, fixture.start.notices.as_slice())?,
     )?;
     Ok(())
+}
+
+/// Puts what the answers to DISC_MUTE and DISC_UN_MUTE tell.
+fn put_mute_reply(alloc: Global, table: &mut Table, reply: MuteReply) -> Result<(), AllocError>
+    ensures put { IsOk result → table_view table.new ≡ with_mute_reply reply (table_view table.old) }
+    ensures says { IsTrue (can_bind reply.binding) → may None says.only_uid (uid_field reply.binding) ≡ Some reply.binding }
+{
+    put_uid(alloc, table, "binding_uid", reply.binding)?;
+    put_true(alloc, table, "boot_loader", reply.boot_loader)?;
+    put_true(alloc, table, "proxied_device", reply.proxied_device)
 }
 
 /// The text of a UID.

@@ -1,7 +1,7 @@
 //! What is written of a fixture that was changed by hand, and what isn't.
 
 use super::{LEAST, is_read_again};
-use rdm_device::{Lock, ParameterDef, Particular, Particulars, Rights, Shape};
+use rdm_device::{Lock, MuteReply, ParameterDef, Particular, Particulars, Rights, Shape};
 use rdm_fixture::Fixture;
 use rdm_frame::{Text, Uid};
 use rdm_outcomes::{Rule, demo_rules};
@@ -23,6 +23,29 @@ languages = ["en"]
 more_slots = 0
 presets = 0
 product_category = "not declared"
+software_version_id = 0
+uid = "7FF0:00000001"
+
+[[personality]]
+dmx_footprint = 0
+"#;
+
+/// The same without the label, if it tells all that can be told when it is muted, and only its newest message of a change waits.
+const MUTED: &str = r#"binding_uid = "7FF0:00000002"
+boot_loader = true
+boot_software_version_id = 0
+device_hours = 0
+device_model_id = 1
+device_power_cycles = 0
+dmx_start_address = 1
+lamp_hours = 0
+lamp_strikes = 0
+languages = ["en"]
+more_slots = 0
+newest_only = true
+presets = 0
+product_category = "not declared"
+proxied_device = true
 software_version_id = 0
 uid = "7FF0:00000001"
 
@@ -81,6 +104,8 @@ enum Change {
     Unprintable,
     /// More slots than there can be.
     Slots,
+    /// A binding UID, and all else that is told of a fixture that is muted.
+    Bound(Uid),
     /// How jobs end.
     Ends(Rule),
 }
@@ -99,6 +124,7 @@ fn make(alloc: Global, fixture: &mut Fixture, changed: Change) -> Result<(), All
         Change::Limited => return add(alloc, fixture, limited()),
         Change::Unprintable => return add(alloc, fixture, unprintable()),
         Change::Slots => return set_slots(alloc, fixture),
+        Change::Bound(uid) => return bind(alloc, fixture, uid),
         Change::Ends(rule) => {
             fixture.outcomes.clear();
             fixture.outcomes.push(rule);
@@ -118,6 +144,18 @@ fn set_lock(alloc: Global, fixture: &mut Fixture) -> Result<(), AllocError> {
 fn set_slots(alloc: Global, fixture: &mut Fixture) -> Result<(), AllocError> {
     let mut particular = Particular::usual();
     particular.more_slots = 513;
+    fixture.profile.particulars = Particulars::of(alloc, particular)?;
+    Ok(())
+}
+
+fn bind(alloc: Global, fixture: &mut Fixture, uid: Uid) -> Result<(), AllocError> {
+    let mut particular = Particular::usual();
+    particular.mute_reply = MuteReply {
+        proxied_device: true,
+        boot_loader: true,
+        binding: Some(uid),
+    };
+    particular.newest_only = true;
     fixture.profile.particulars = Particulars::of(alloc, particular)?;
     Ok(())
 }
@@ -212,6 +250,11 @@ const NOT_WRITTEN: &str = "Indescribable";
 fn what_is_written(rt: HostRuntime) {
     is_written(&rt, rt.alloc(), Change::Label, WITH_SUB_DEVICES);
     is_written(&rt, rt.alloc(), Change::Labels, WRITTEN);
+    let first_port = Uid {
+        maker: 0x7FF0,
+        device: 2,
+    };
+    is_written(&rt, rt.alloc(), Change::Bound(first_port), MUTED);
 }
 
 /// What no file can say isn't written.
@@ -224,6 +267,7 @@ fn what_is_not_written(rt: HostRuntime) {
         Change::Limited,
         Change::Unprintable,
         Change::Slots,
+        Change::Bound(Uid::ALL),
         // How jobs end: a failure that is over, an outcome of job 0, and one that the parameter can't have.
         Change::Ends(rule(None, OVER)),
         Change::Ends(rule(Some(0), Outcome::Done)),

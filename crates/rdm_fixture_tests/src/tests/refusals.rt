@@ -72,6 +72,15 @@ line 1: `languages` must list codes of two lowercase letters, such as "en"
 languages = [1]¶..
 line 1: `languages` must list codes of two lowercase letters, such as "en"
 
+binding_uid = "7FF0-00000001"¶..
+line 1: `binding_uid` must be the UID of one device, such as "7FF0:00000001"
+
+binding_uid = "7FF0:FFFFFFFF"¶..
+line 1: `binding_uid` must be the UID of one device, such as "7FF0:00000001"
+
+boot_loader = 1¶..
+line 1: `boot_loader` must be true or false
+
 preset = 1¶..
 line 1: unknown key `preset`
 

@@ -3,7 +3,9 @@
 ghost use Rattle.std.specs.Prelude.{◌≡◌, ◌≤◌, [], length, IfOk, IsTrue};
 ghost use Rattle.rdm_profile.specs.Particulars.{usual_particular};
 
-use crate::{ChoiceName, ChoiceNames, Estimates, Lock, Locks, OwnParameters, ParameterDef};
+use crate::{
+    ChoiceName, ChoiceNames, Estimates, Lock, Locks, MuteReply, OwnParameters, ParameterDef,
+};
 use arrayvec::ArrayVec;
 use std::alloc::{AllocError, Global};
 use std::marker::Model;
@@ -23,6 +25,10 @@ pub struct Particular {
     pub more_slots: u16,
     /// How long its slow commands take.
     pub estimates: Estimates,
+    /// What the answers to DISC_MUTE and DISC_UN_MUTE tell of it (section 7.6).
+    pub mute_reply: MuteReply,
+    /// Whether the message of a change at its menu takes the place of one that still waits and tells of the same parameter.
+    pub newest_only: bool,
 }
 
 impl Particular {
@@ -37,6 +43,8 @@ impl Particular {
             without: ArrayVec::new(),
             more_slots: 0,
             estimates: Estimates::usual(),
+            mute_reply: MuteReply::plain(),
+            newest_only: false,
         }
     }
 
@@ -48,6 +56,8 @@ impl Particular {
             && self.without.is_empty()
             && self.more_slots == 0
             && self.estimates == Estimates::usual()
+            && self.mute_reply == MuteReply::plain()
+            && !self.newest_only
     }
 
     /// Whether it adds no parameters, and nothing that belongs to them.
@@ -165,6 +175,26 @@ impl Particulars {
             None => Estimates::usual(),
         }
     }
+
+    /// What the answers to DISC_MUTE and DISC_UN_MUTE tell of it.
+    pub fn mute_reply(&self) -> MuteReply
+        ensures { result ≡ self.now.mute_reply }
+    {
+        match &self.inner {
+            Some(particular) => particular.mute_reply,
+            None => MuteReply::plain(),
+        }
+    }
+
+    /// Whether the message of a change at its menu takes the place of one that still waits and tells of the same parameter.
+    pub fn newest_only(&self) -> bool
+        ensures { result ≡ self.now.newest_only }
+    {
+        match &self.inner {
+            Some(particular) => particular.newest_only,
+            None => false,
+        }
+    }
 }
 
 impl PartialEq for Particulars {
@@ -181,6 +211,8 @@ impl PartialEq for Particulars {
             && self.without() == other.without()
             && self.more_slots() == other.more_slots()
             && self.estimates() == other.estimates()
+            && self.mute_reply() == other.mute_reply()
+            && self.newest_only() == other.newest_only()
     }
 }
 

@@ -5,7 +5,7 @@ ghost use Rattle.std.specs.Bool.{OnFalse};
 ghost use Rattle.std.specs.Int.{w16, to_be_bytes};
 ghost use Rattle.rdm_params.specs.Commands.Changed.{change_of};
 ghost use Rattle.rdm_responder.specs.Requests.{Branch, Muting, Set, IsFrom, request_of, get_of, discovery_of};
-ghost use Rattle.rdm_responder.specs.Rules.{answered, Account, answer_to, job_with, account_with, control_field};
+ghost use Rattle.rdm_responder.specs.Rules.{answered, Account, answer_to, job_with, account_with, control_field, mute_data};
 ghost use Rattle.rdm_responder.specs.StandsFor.{Shows};
 ghost use Rattle.rdm_responder.specs.Started.{job_in, IsAsInProfile, IsForItsWorker};
 
@@ -16,10 +16,17 @@ use crate::stepped::Stepped;
 use rdm_frame::standard::{
     ACK, DISC_MUTE, DISC_UN_MUTE, DISC_UNIQUE_BRANCH, DISCOVERY_COMMAND, GET_COMMAND, SET_COMMAND,
 };
-use rdm_frame::{FrameView, Uid, Wire, disc_reply, uid_at};
+use rdm_frame::{Body, FrameView, Uid, Wire, disc_reply, uid_at};
+use rdm_params::Devices;
 
-/// The control field of a device with sub-devices (E1.20 section 7.6).
+/// The bit of the control field that a device with sub-devices sets (E1.20 section 7.6).
 const HAS_SUB_DEVICES: u16 = 0x0002;
+
+/// The bit of one that can do nothing until firmware is uploaded to it.
+const IS_BOOT_LOADER: u16 = 0x0004;
+
+/// The bit of one for which a proxy answers.
+const IS_PROXIED_DEVICE: u16 = 0x0008;
 
 impl Responder {
     /// Writes what is answered to a frame, of which these are the bytes, and says whether anything is, which job started, and what changed.
@@ -178,7 +185,7 @@ impl Responder {
         ensures unchanged { self.new.parameters ≡ self.old.parameters }
     {
         self.muted = muted;
-        let field = self.control_field();
+        tell_muting(&self.devices, &mut self.body);
         let heading = Heading::of_own(request, ACK);
         send(
             self.uid,
@@ -186,20 +193,43 @@ impl Responder {
             request,
             request.dst.is_broadcast(),
             heading,
-            &field.to_be_bytes(),
+            self.body.as_slice(),
             0,
             wire,
         )
     }
+}
 
-    /// Tells whether there are sub-devices (E1.20 section 7.6).
-    fn control_field(&self) -> u16
-        ensures { to_be_bytes w16 result ≡ control_field self.now.parameters }
-    {
-        if self.devices.sub_devices() == 0 {
-            0
-        } else {
-            HAS_SUB_DEVICES
-        }
+/// Puts what these devices tell when they are muted or un-muted in `body`: the control field, and the binding UID if there is one (E1.20
+/// section 7.6).
+// A call, so that GET and SET don't make room for it.
+#[inline(never)]
+fn tell_muting(devices: &Devices, body: &mut Body)
+    ensures { body.new ≡ mute_data devices.now }
+{
+    body.clear();
+    body.append(&control_field(devices).to_be_bytes());
+    if let Some(uid) = devices.mute_reply().binding {
+        body.append(&uid.maker.to_be_bytes());
+        body.append(&uid.device.to_be_bytes());
     }
+}
+
+/// The control field: whether there are sub-devices, and what the profile says (E1.20 section 7.6).
+fn control_field(devices: &Devices) -> u16
+    ensures { to_be_bytes w16 result ≡ control_field devices.now }
+{
+    let reply = devices.mute_reply();
+    let sub_devices = if devices.sub_devices() == 0 {
+        0
+    } else {
+        HAS_SUB_DEVICES
+    };
+    let boot_loader = if reply.boot_loader { IS_BOOT_LOADER } else { 0 };
+    let proxied_device = if reply.proxied_device {
+        IS_PROXIED_DEVICE
+    } else {
+        0
+    };
+    sub_devices + boot_loader + proxied_device
 }

@@ -8,5 +8,6 @@ returns c =
     let old = c.args.text.now.items in
     let head = spec.comment (spec.heading_words c.args.uid) in
     let first = both_put old _ _ head (spec.comment spec.untold_words) c.in_ok-put_first_line.ensures c.in_ok-put_comment.ensures in
-    last_put c.put_comment-2.result old _ c.put_comment-2.new.text.items (head ++ spec.comment spec.untold_words) (spec.comment spec.unasked_words) first
-    c.put_comment-2.ensures
+    let second = both_put old _ _ (head ++ spec.comment spec.untold_words) (spec.comment spec.unasked_words) first c.in_ok-put_comment-2.ensures in
+    last_put c.put_comment-3.result old _ c.put_comment-3.new.text.items (head ++ spec.comment spec.untold_words ++ spec.comment spec.unasked_words)
+    (spec.comment spec.unmuted_words) second c.put_comment-3.ensures

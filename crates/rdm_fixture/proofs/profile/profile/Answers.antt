@@ -8,7 +8,7 @@ use Rattle.toml.specs.View.{table_view}
 use Rattle.rdm_fixture.specs.Drafts.{profile_with}
 use Rattle.rdm_fixture_keys.specs.Faults.{told}
 use Rattle.rdm_fixture_keys.specs.Entries.{self_test_parts, status_parts, IsSelfTest, IsStatus}
-use Rattle.rdm_fixture.specs.FirstWrong.{profile_parts, unit_parts, differing, names, optional, unneeded, added_parts, AreAdded, times, choice}
+use Rattle.rdm_fixture.specs.FirstWrong.{profile_parts, unit_parts, differing, names, optional, unneeded, added_parts, AreAdded, times, choice, muting, newest}
 use Rattle.rdm_fixture.specs.Format.{IsProfile, AreLocks, root_slots}
 use Rattle.rdm_fixture_keys.specs.Keys.{may}
 use Rattle.rdm_fixture_keys.specs.Values.{number, text}
@@ -29,7 +29,7 @@ abbrev without_parts : List Part
 without_parts = names ∷ optional ∷ unneeded ∷ []
 
 abbrev after_without : List Part
-after_without = added_parts ++ (times ∷ choice ∷ [])
+after_without = added_parts ++ (times ∷ choice ∷ muting ∷ newest ∷ [])
 
 abbrev after_statuses : List Part
 after_statuses = without_parts ++ after_without
@@ -74,6 +74,10 @@ pub returns-in_err-workers-clause-read : goal.returns-in_err-workers-clause-read
 returns-in_err-workers-clause-read c =
     Reads-err (λ t r. IsProfile t (profile_with r.0 r.1)) _ _ c.from_residual-in_err-workers.ensures.0 (λ r h. c.in_err-workers.ensures.read r.0.workers h.workers)
 
+pub returns-in_err-mute_reply-clause-read : goal.returns-in_err-mute_reply-clause-read
+returns-in_err-mute_reply-clause-read c =
+    Reads-err (λ t r. IsProfile t (profile_with r.0 r.1)) _ _ c.from_residual-in_err-mute_reply.ensures.0 (λ r h. c.in_err-mute_reply.ensures.read r.1.mute_reply h.mute_reply)
+
 pub returns-clause-read : goal.returns-clause-read
 returns-clause-read c =
     let more : Some c.in_ok-more_slots.more_slots ≡ may 0 (number 0 512) (get_member (codes "more_slots") (table_view c.args.table.now)) = c.in_ok-more_slots.ensures.value in
@@ -103,6 +107,8 @@ returns-clause-read c =
       states = c.in_ok-added.ensures.read.4;
       estimates = c.in_ok-estimates.ensures.read;
       workers = c.in_ok-workers.ensures.read;
+      mute_reply = c.in_ok-mute_reply.ensures.read;
+      newest_only = search rules;
     }
 
 pub sub_devices-requires : goal.sub_devices-requires
@@ -191,7 +197,7 @@ returns-in_err-added-clause-wrong c =
     let count : c.root_slots-count.result ≡ root_slots (table_view c.args.table.now) =
     c.root_slots-count.ensures ∙ slots_counted _ _ _ _ more (c.len.ensures.value ∙ c.in_ok-slots.ensures.count) in
     exit (FirstWrong profile_parts (table_view c.args.table.now)) _ _ c.from_residual-in_err-added.ensures.1
-    (inr (free_right 0 (number 0 0xFFFFFFFF) (get_member (codes "boot_software_version_id") (table_view c.args.table.now)) _ c.in_ok-boot.ensures.value, inr (free_right [] text (get_member (codes "boot_software_version_label") (table_view c.args.table.now)) _ c.in_ok-boot_text.ensures.value, inr ((c.in_ok-languages.languages.items, c.in_ok-languages.ensures.read), inr (free_right 0 (number 0 65534) (get_member (codes "presets") (table_view c.args.table.now)) _ c.in_ok-presets.ensures.value, inr (free_right 0 (number 0 512) (get_member (codes "more_slots") (table_view c.args.table.now)) _ c.in_ok-more_slots.ensures.value, inr ((c.in_ok-slots.slots.items, c.in_ok-slots.ensures.read), inr ((c.in_ok-root.root, rw (← count) c.in_ok-root.ensures.read), inr (((c.in_ok-subs.subs, c.in_ok-subs.sub), rw (← count) c.in_ok-subs.ensures.read), inr ((_, c.in_ok-sensors.ensures.read), inr ((_, c.in_ok-tests.ensures.read.0), inr ((_, c.in_ok-tests.ensures.read), inr ((_, c.in_ok-status_texts.ensures.read.0), inr ((_, c.in_ok-status_texts.ensures.read), inr ((_, c.in_ok-without.ensures.read.0), inr ((_, (c.in_ok-without.ensures.read.0, c.in_ok-without.ensures.read.1.optional)), inr ((_, (c.in_ok-without.ensures.read.0, c.in_ok-without.ensures.read.1.needs)), among added_parts (times ∷ choice ∷ []) (table_view c.args.table.now) _ c.in_err-added.ensures.wrong)))))))))))))))))
+    (inr (free_right 0 (number 0 0xFFFFFFFF) (get_member (codes "boot_software_version_id") (table_view c.args.table.now)) _ c.in_ok-boot.ensures.value, inr (free_right [] text (get_member (codes "boot_software_version_label") (table_view c.args.table.now)) _ c.in_ok-boot_text.ensures.value, inr ((c.in_ok-languages.languages.items, c.in_ok-languages.ensures.read), inr (free_right 0 (number 0 65534) (get_member (codes "presets") (table_view c.args.table.now)) _ c.in_ok-presets.ensures.value, inr (free_right 0 (number 0 512) (get_member (codes "more_slots") (table_view c.args.table.now)) _ c.in_ok-more_slots.ensures.value, inr ((c.in_ok-slots.slots.items, c.in_ok-slots.ensures.read), inr ((c.in_ok-root.root, rw (← count) c.in_ok-root.ensures.read), inr (((c.in_ok-subs.subs, c.in_ok-subs.sub), rw (← count) c.in_ok-subs.ensures.read), inr ((_, c.in_ok-sensors.ensures.read), inr ((_, c.in_ok-tests.ensures.read.0), inr ((_, c.in_ok-tests.ensures.read), inr ((_, c.in_ok-status_texts.ensures.read.0), inr ((_, c.in_ok-status_texts.ensures.read), inr ((_, c.in_ok-without.ensures.read.0), inr ((_, (c.in_ok-without.ensures.read.0, c.in_ok-without.ensures.read.1.optional)), inr ((_, (c.in_ok-without.ensures.read.0, c.in_ok-without.ensures.read.1.needs)), among added_parts (times ∷ choice ∷ muting ∷ newest ∷ []) (table_view c.args.table.now) _ c.in_err-added.ensures.wrong)))))))))))))))))
 
 pub returns-in_err-estimates-clause-wrong : goal.returns-in_err-estimates-clause-wrong
 returns-in_err-estimates-clause-wrong c =
@@ -199,7 +205,7 @@ returns-in_err-estimates-clause-wrong c =
     let count : c.root_slots-count.result ≡ root_slots (table_view c.args.table.now) =
     c.root_slots-count.ensures ∙ slots_counted _ _ _ _ more (c.len.ensures.value ∙ c.in_ok-slots.ensures.count) in
     exit (FirstWrong profile_parts (table_view c.args.table.now)) _ _ c.from_residual-in_err-estimates.ensures.1
-    (inr (free_right 0 (number 0 0xFFFFFFFF) (get_member (codes "boot_software_version_id") (table_view c.args.table.now)) _ c.in_ok-boot.ensures.value, inr (free_right [] text (get_member (codes "boot_software_version_label") (table_view c.args.table.now)) _ c.in_ok-boot_text.ensures.value, inr ((c.in_ok-languages.languages.items, c.in_ok-languages.ensures.read), inr (free_right 0 (number 0 65534) (get_member (codes "presets") (table_view c.args.table.now)) _ c.in_ok-presets.ensures.value, inr (free_right 0 (number 0 512) (get_member (codes "more_slots") (table_view c.args.table.now)) _ c.in_ok-more_slots.ensures.value, inr ((c.in_ok-slots.slots.items, c.in_ok-slots.ensures.read), inr ((c.in_ok-root.root, rw (← count) c.in_ok-root.ensures.read), inr (((c.in_ok-subs.subs, c.in_ok-subs.sub), rw (← count) c.in_ok-subs.ensures.read), inr ((_, c.in_ok-sensors.ensures.read), inr ((_, c.in_ok-tests.ensures.read.0), inr ((_, c.in_ok-tests.ensures.read), inr ((_, c.in_ok-status_texts.ensures.read.0), inr ((_, c.in_ok-status_texts.ensures.read), inr ((_, c.in_ok-without.ensures.read.0), inr ((_, (c.in_ok-without.ensures.read.0, c.in_ok-without.ensures.read.1.optional)), inr ((_, (c.in_ok-without.ensures.read.0, c.in_ok-without.ensures.read.1.needs)), behind added_parts (times ∷ choice ∷ []) (table_view c.args.table.now) _ (all_added (table_view c.args.table.now) c.in_ok-added.added.own.items c.in_ok-added.added.choices.items c.in_ok-added.added.locks.items c.in_ok-added.ensures.read) (inl c.in_err-estimates.ensures.wrong))))))))))))))))))
+    (inr (free_right 0 (number 0 0xFFFFFFFF) (get_member (codes "boot_software_version_id") (table_view c.args.table.now)) _ c.in_ok-boot.ensures.value, inr (free_right [] text (get_member (codes "boot_software_version_label") (table_view c.args.table.now)) _ c.in_ok-boot_text.ensures.value, inr ((c.in_ok-languages.languages.items, c.in_ok-languages.ensures.read), inr (free_right 0 (number 0 65534) (get_member (codes "presets") (table_view c.args.table.now)) _ c.in_ok-presets.ensures.value, inr (free_right 0 (number 0 512) (get_member (codes "more_slots") (table_view c.args.table.now)) _ c.in_ok-more_slots.ensures.value, inr ((c.in_ok-slots.slots.items, c.in_ok-slots.ensures.read), inr ((c.in_ok-root.root, rw (← count) c.in_ok-root.ensures.read), inr (((c.in_ok-subs.subs, c.in_ok-subs.sub), rw (← count) c.in_ok-subs.ensures.read), inr ((_, c.in_ok-sensors.ensures.read), inr ((_, c.in_ok-tests.ensures.read.0), inr ((_, c.in_ok-tests.ensures.read), inr ((_, c.in_ok-status_texts.ensures.read.0), inr ((_, c.in_ok-status_texts.ensures.read), inr ((_, c.in_ok-without.ensures.read.0), inr ((_, (c.in_ok-without.ensures.read.0, c.in_ok-without.ensures.read.1.optional)), inr ((_, (c.in_ok-without.ensures.read.0, c.in_ok-without.ensures.read.1.needs)), behind added_parts (times ∷ choice ∷ muting ∷ newest ∷ []) (table_view c.args.table.now) _ (all_added (table_view c.args.table.now) c.in_ok-added.added.own.items c.in_ok-added.added.choices.items c.in_ok-added.added.locks.items c.in_ok-added.ensures.read) (inl c.in_err-estimates.ensures.wrong))))))))))))))))))
 
 pub returns-in_err-workers-clause-wrong : goal.returns-in_err-workers-clause-wrong
 returns-in_err-workers-clause-wrong c =
@@ -207,4 +213,20 @@ returns-in_err-workers-clause-wrong c =
     let count : c.root_slots-count.result ≡ root_slots (table_view c.args.table.now) =
     c.root_slots-count.ensures ∙ slots_counted _ _ _ _ more (c.len.ensures.value ∙ c.in_ok-slots.ensures.count) in
     exit (FirstWrong profile_parts (table_view c.args.table.now)) _ _ c.from_residual-in_err-workers.ensures.1
-    (inr (free_right 0 (number 0 0xFFFFFFFF) (get_member (codes "boot_software_version_id") (table_view c.args.table.now)) _ c.in_ok-boot.ensures.value, inr (free_right [] text (get_member (codes "boot_software_version_label") (table_view c.args.table.now)) _ c.in_ok-boot_text.ensures.value, inr ((c.in_ok-languages.languages.items, c.in_ok-languages.ensures.read), inr (free_right 0 (number 0 65534) (get_member (codes "presets") (table_view c.args.table.now)) _ c.in_ok-presets.ensures.value, inr (free_right 0 (number 0 512) (get_member (codes "more_slots") (table_view c.args.table.now)) _ c.in_ok-more_slots.ensures.value, inr ((c.in_ok-slots.slots.items, c.in_ok-slots.ensures.read), inr ((c.in_ok-root.root, rw (← count) c.in_ok-root.ensures.read), inr (((c.in_ok-subs.subs, c.in_ok-subs.sub), rw (← count) c.in_ok-subs.ensures.read), inr ((_, c.in_ok-sensors.ensures.read), inr ((_, c.in_ok-tests.ensures.read.0), inr ((_, c.in_ok-tests.ensures.read), inr ((_, c.in_ok-status_texts.ensures.read.0), inr ((_, c.in_ok-status_texts.ensures.read), inr ((_, c.in_ok-without.ensures.read.0), inr ((_, (c.in_ok-without.ensures.read.0, c.in_ok-without.ensures.read.1.optional)), inr ((_, (c.in_ok-without.ensures.read.0, c.in_ok-without.ensures.read.1.needs)), behind added_parts (times ∷ choice ∷ []) (table_view c.args.table.now) _ (all_added (table_view c.args.table.now) c.in_ok-added.added.own.items c.in_ok-added.added.choices.items c.in_ok-added.added.locks.items c.in_ok-added.ensures.read) (inr ((c.in_ok-estimates.estimates, c.in_ok-estimates.ensures.read), inl c.in_err-workers.ensures.wrong)))))))))))))))))))
+    (inr (free_right 0 (number 0 0xFFFFFFFF) (get_member (codes "boot_software_version_id") (table_view c.args.table.now)) _ c.in_ok-boot.ensures.value, inr (free_right [] text (get_member (codes "boot_software_version_label") (table_view c.args.table.now)) _ c.in_ok-boot_text.ensures.value, inr ((c.in_ok-languages.languages.items, c.in_ok-languages.ensures.read), inr (free_right 0 (number 0 65534) (get_member (codes "presets") (table_view c.args.table.now)) _ c.in_ok-presets.ensures.value, inr (free_right 0 (number 0 512) (get_member (codes "more_slots") (table_view c.args.table.now)) _ c.in_ok-more_slots.ensures.value, inr ((c.in_ok-slots.slots.items, c.in_ok-slots.ensures.read), inr ((c.in_ok-root.root, rw (← count) c.in_ok-root.ensures.read), inr (((c.in_ok-subs.subs, c.in_ok-subs.sub), rw (← count) c.in_ok-subs.ensures.read), inr ((_, c.in_ok-sensors.ensures.read), inr ((_, c.in_ok-tests.ensures.read.0), inr ((_, c.in_ok-tests.ensures.read), inr ((_, c.in_ok-status_texts.ensures.read.0), inr ((_, c.in_ok-status_texts.ensures.read), inr ((_, c.in_ok-without.ensures.read.0), inr ((_, (c.in_ok-without.ensures.read.0, c.in_ok-without.ensures.read.1.optional)), inr ((_, (c.in_ok-without.ensures.read.0, c.in_ok-without.ensures.read.1.needs)), behind added_parts (times ∷ choice ∷ muting ∷ newest ∷ []) (table_view c.args.table.now) _ (all_added (table_view c.args.table.now) c.in_ok-added.added.own.items c.in_ok-added.added.choices.items c.in_ok-added.added.locks.items c.in_ok-added.ensures.read) (inr ((c.in_ok-estimates.estimates, c.in_ok-estimates.ensures.read), inl c.in_err-workers.ensures.wrong)))))))))))))))))))
+
+pub returns-in_err-mute_reply-clause-wrong : goal.returns-in_err-mute_reply-clause-wrong
+returns-in_err-mute_reply-clause-wrong c =
+    let more : Some c.in_ok-more_slots.more_slots ≡ may 0 (number 0 512) (get_member (codes "more_slots") (table_view c.args.table.now)) = c.in_ok-more_slots.ensures.value in
+    let count : c.root_slots-count.result ≡ root_slots (table_view c.args.table.now) =
+    c.root_slots-count.ensures ∙ slots_counted _ _ _ _ more (c.len.ensures.value ∙ c.in_ok-slots.ensures.count) in
+    exit (FirstWrong profile_parts (table_view c.args.table.now)) _ _ c.from_residual-in_err-mute_reply.ensures.1
+    (inr (free_right 0 (number 0 0xFFFFFFFF) (get_member (codes "boot_software_version_id") (table_view c.args.table.now)) _ c.in_ok-boot.ensures.value, inr (free_right [] text (get_member (codes "boot_software_version_label") (table_view c.args.table.now)) _ c.in_ok-boot_text.ensures.value, inr ((c.in_ok-languages.languages.items, c.in_ok-languages.ensures.read), inr (free_right 0 (number 0 65534) (get_member (codes "presets") (table_view c.args.table.now)) _ c.in_ok-presets.ensures.value, inr (free_right 0 (number 0 512) (get_member (codes "more_slots") (table_view c.args.table.now)) _ c.in_ok-more_slots.ensures.value, inr ((c.in_ok-slots.slots.items, c.in_ok-slots.ensures.read), inr ((c.in_ok-root.root, rw (← count) c.in_ok-root.ensures.read), inr (((c.in_ok-subs.subs, c.in_ok-subs.sub), rw (← count) c.in_ok-subs.ensures.read), inr ((_, c.in_ok-sensors.ensures.read), inr ((_, c.in_ok-tests.ensures.read.0), inr ((_, c.in_ok-tests.ensures.read), inr ((_, c.in_ok-status_texts.ensures.read.0), inr ((_, c.in_ok-status_texts.ensures.read), inr ((_, c.in_ok-without.ensures.read.0), inr ((_, (c.in_ok-without.ensures.read.0, c.in_ok-without.ensures.read.1.optional)), inr ((_, (c.in_ok-without.ensures.read.0, c.in_ok-without.ensures.read.1.needs)), behind added_parts (times ∷ choice ∷ muting ∷ newest ∷ []) (table_view c.args.table.now) _ (all_added (table_view c.args.table.now) c.in_ok-added.added.own.items c.in_ok-added.added.choices.items c.in_ok-added.added.locks.items c.in_ok-added.ensures.read) (inr ((c.in_ok-estimates.estimates, c.in_ok-estimates.ensures.read), inr ((c.in_ok-workers.workers, c.in_ok-workers.ensures.read), inl c.in_err-mute_reply.ensures.wrong))))))))))))))))))))
+
+pub returns-in_err-newest_only-clause-wrong : goal.returns-in_err-newest_only-clause-wrong
+returns-in_err-newest_only-clause-wrong c =
+    let more : Some c.in_ok-more_slots.more_slots ≡ may 0 (number 0 512) (get_member (codes "more_slots") (table_view c.args.table.now)) = c.in_ok-more_slots.ensures.value in
+    let count : c.root_slots-count.result ≡ root_slots (table_view c.args.table.now) =
+    c.root_slots-count.ensures ∙ slots_counted _ _ _ _ more (c.len.ensures.value ∙ c.in_ok-slots.ensures.count) in
+    exit (FirstWrong profile_parts (table_view c.args.table.now)) _ _ c.from_residual-in_err-newest_only.ensures.1
+    (inr (free_right 0 (number 0 0xFFFFFFFF) (get_member (codes "boot_software_version_id") (table_view c.args.table.now)) _ c.in_ok-boot.ensures.value, inr (free_right [] text (get_member (codes "boot_software_version_label") (table_view c.args.table.now)) _ c.in_ok-boot_text.ensures.value, inr ((c.in_ok-languages.languages.items, c.in_ok-languages.ensures.read), inr (free_right 0 (number 0 65534) (get_member (codes "presets") (table_view c.args.table.now)) _ c.in_ok-presets.ensures.value, inr (free_right 0 (number 0 512) (get_member (codes "more_slots") (table_view c.args.table.now)) _ c.in_ok-more_slots.ensures.value, inr ((c.in_ok-slots.slots.items, c.in_ok-slots.ensures.read), inr ((c.in_ok-root.root, rw (← count) c.in_ok-root.ensures.read), inr (((c.in_ok-subs.subs, c.in_ok-subs.sub), rw (← count) c.in_ok-subs.ensures.read), inr ((_, c.in_ok-sensors.ensures.read), inr ((_, c.in_ok-tests.ensures.read.0), inr ((_, c.in_ok-tests.ensures.read), inr ((_, c.in_ok-status_texts.ensures.read.0), inr ((_, c.in_ok-status_texts.ensures.read), inr ((_, c.in_ok-without.ensures.read.0), inr ((_, (c.in_ok-without.ensures.read.0, c.in_ok-without.ensures.read.1.optional)), inr ((_, (c.in_ok-without.ensures.read.0, c.in_ok-without.ensures.read.1.needs)), behind added_parts (times ∷ choice ∷ muting ∷ newest ∷ []) (table_view c.args.table.now) _ (all_added (table_view c.args.table.now) c.in_ok-added.added.own.items c.in_ok-added.added.choices.items c.in_ok-added.added.locks.items c.in_ok-added.ensures.read) (inr ((c.in_ok-estimates.estimates, c.in_ok-estimates.ensures.read), inr ((c.in_ok-workers.workers, c.in_ok-workers.ensures.read), inr ((c.in_ok-mute_reply.mute_reply, c.in_ok-mute_reply.ensures.read), inl c.in_err-newest_only.ensures.wrong)))))))))))))))))))))

@@ -2,7 +2,7 @@ use Rattle.std.proofs.Common.{refl, sym, ap, subst, ◌∙◌}
 use Rattle.rdm_params.specs.Commands.Panel.{after_change, change_message}
 use Rattle.rdm_outbox.specs.Shows as outbox_state
 use Rattle.rdm_responder.specs.History.{Changed}
-use Rattle.rdm_responder.specs.Rules.{account_of}
+use Rattle.rdm_responder.specs.Rules.{account_of, newest_only}
 use Rattle.rdm_responder.specs.StandsFor.{State}
 use Rattle.rdm_responder.proofs.Accounts.{stands_for_event}
 use Rattle.rdm_responder.proofs.Changes.{shows_change}
@@ -27,9 +27,10 @@ returns-clause-stands c h stands =
     let b = (account_of h).outbox in
     let shows = subst (λ (s : State). outbox_state.Shows s.outbox b) (sym c.self.view_is) stands.outbox in
     let message = c.change-message.ensures.message ∙ ap (λ (s : State). change_message s.parameters c.args.change) c.self.view_is in
+    let newest = c.newest_only-newest.ensures ∙ ap (λ (s : State). newest_only s.parameters) c.self.view_is in
     let after = c.change-message.ensures.after ∙ ap (λ (s : State). after_change s.parameters c.args.change) c.self.view_is in
     stands_for_event _ h (Changed c.args.change)
-    (shows_change c.args.self.now _ (account_of h) c.args.change c.change-message.result stands message
+    (shows_change c.args.self.now _ (account_of h) c.args.change c.change-message.result c.newest_only-newest.result stands newest message
     (ap (λ (s : State). s.uid) c.self.view_is) after (ap (λ (s : State). s.muted) c.self.view_is) (c.announce.ensures.shows b shows))
 
 pub invariant_of-self : goal.invariant_of-self
