@@ -17,7 +17,8 @@ pub record Noted : Type 0 where
 -- number of each worker's first job; which worker carries out which work; the jobs that were accepted; the workers whose
 -- jobs have ended, one for each; the messages that arrived, without those that a newer one replaced while they waited, and
 -- how many of them have left the queue, since the controller fetched them or the firmware dropped them; the status entries;
--- and the answers to QUEUED_MESSAGE and STATUS_MESSAGES, repeats left out. All of them in order of time.
+-- and the answers to QUEUED_MESSAGE and STATUS_MESSAGES, repeats left out. All of them in order of time, but that a message
+-- which took the place of another stands there.
 pub record Account : Type 0 where
   pub q : ℕ
   pub jobs : ℕ
