@@ -1,4 +1,4 @@
-/* A fixture and the controller that asks it, in one program and without a bus: what own.c and locked.c share. */
+/* A fixture and the controller that asks it, in one program and without a bus: what own.c, locked.c and modes.c share. */
 #ifndef ASKED_H
 #define ASKED_H
 #include "felosumay.h"

@@ -114,6 +114,15 @@ typedef struct {
     felosumay_text name;
 } felosumay_slot;
 
+/* A personality of the root that has slots of its own, or those of another one (sections 10.6.1 and 10.6.4). */
+typedef struct {
+    uint16_t footprint;  /* how many DMX512 slots it takes: 0 to 512 */
+    uint16_t first_slot; /* which of `mode_slots` is the first of its own, from 0 */
+    uint8_t slot_count;  /* how many of these are its own, from that one on: 0 to 46; two modes may have the same */
+    uint8_t slots_of;    /* the number of the personality whose slots it has, from 1; 0 if it has its own */
+    felosumay_text name;
+} felosumay_mode;
+
 /* What a sensor measures (sections 10.7.1 and 10.7.2). Its values are in `unit`, times what `prefix` stands for. */
 typedef struct {
     int16_t low; /* the least and the greatest value that it can give; readings aren't checked against them */
@@ -280,6 +289,11 @@ typedef struct {
     /* The UID of its first port, if it has several, each with a UID of its own: the answers to DISC_MUTE tell it (section 7.6). It is the
      * manufacturer ID and then the device ID, the most significant byte first, or {0} if the fixture has one port. */
     uint8_t binding_uid[6];
+    /* Two more lists outside this struct: */
+    FELOSUMAY_WIDE const felosumay_mode *modes; /* more personalities of the root, which are numbered behind those of `root` */
+    uint64_t mode_count;                        /* 0 to 247 */
+    FELOSUMAY_WIDE const felosumay_slot *mode_slots; /* the slots of all of them; each says which are its own */
+    uint64_t mode_slot_count;                        /* 0 to 65535 */
 } felosumay_profile;
 
 /* The rules of a profile, in the order in which they are tested. BAD_PROFILE says that one of them is broken. */
@@ -308,7 +322,10 @@ enum {
     FELOSUMAY_FAULT_PARAMETER_LOCKS = 21,   /* each lock is for a state from 1 to the greatest of LOCK_STATE */
     FELOSUMAY_FAULT_PARAMETER_LOCK_STATE = 22, /* LOCK_STATE can be read, and has LOCK_PIN beside it */
     FELOSUMAY_FAULT_PARAMETER_LOCKED = 23,  /* each lock is for a parameter with a quick SET at the root, and not for LOCK_STATE */
-    FELOSUMAY_FAULT_BINDING_UID = 24        /* the device ID of binding_uid isn't FFFFFFFF, which addresses more than one device */
+    FELOSUMAY_FAULT_BINDING_UID = 24,       /* the device ID of binding_uid isn't FFFFFFFF, which addresses more than one device */
+    FELOSUMAY_FAULT_MODE_COUNT = 25,        /* mode_count is at most 247 */
+    FELOSUMAY_FAULT_MODE_FOOTPRINT = 26,    /* the footprint of each mode is at most 512 */
+    FELOSUMAY_FAULT_MODE_SLOTS = 27 /* each has at most 46 slots, all in mode_slots; or none, and slots_of is a personality with its own */
 };
 
 /* The first rule that the profile breaks, or NO_FAULT; then `new` doesn't return BAD_PROFILE. */
@@ -395,20 +412,23 @@ felosumay_result felosumay_responder_demo(felosumay_responder *responder, uint16
  * sub-devices, each block rounded up to 16 bytes: `new` asks the heap for no more, and no later call asks it for any.
  * FELOSUMAY_RESPONDER_BYTES is the same as a constant, for the size of an array. A profile with unusual features takes more: add
  * each of these that applies. FELOSUMAY_PARTICULARS_BYTES if it has `parameters`, `without`, `choices`, `locks`, `more_slots`, unusual
- * `estimates`, `boot_loader`, `proxied_device`, `newest_only` or `binding_uid`; FELOSUMAY_OWN_PARAMETERS_BYTES of the number of its
- * parameters; FELOSUMAY_VALUES_BYTES of how many of them are orders, and how many scenes PRESET_STATUS has; FELOSUMAY_CHOICES_BYTES and
- * FELOSUMAY_LOCKS_BYTES of those numbers.
+ * `estimates`, `boot_loader`, `proxied_device`, `newest_only`, `binding_uid` or `modes`; FELOSUMAY_OWN_PARAMETERS_BYTES of the number of
+ * its parameters; FELOSUMAY_VALUES_BYTES of how many of them are orders, and how many scenes PRESET_STATUS has; FELOSUMAY_CHOICES_BYTES and
+ * FELOSUMAY_LOCKS_BYTES of those numbers; FELOSUMAY_MODES_BYTES of the number of its modes, and the sum of their `slot_count`.
  * `fits` tests whether a responder of this size fits into so many bytes at this address, as felosumay_memory.h makes one: UNALIGNED,
  * SHORT_MEMORY, in this order. Both calls calculate with any sizes; `new` rejects a BAD_SIZE. */
 uint64_t felosumay_responder_size(uint16_t queue_size, uint16_t entries, uint16_t sub_devices);
 felosumay_result felosumay_responder_fits(uint64_t address, uint64_t bytes, uint16_t queue_size, uint16_t entries,
                                           uint16_t sub_devices);
 #define FELOSUMAY_ROUNDED(bytes) (((uint64_t)(bytes) + 15) / 16 * 16)
-#define FELOSUMAY_PARTICULARS_BYTES FELOSUMAY_ROUNDED(160)
+#define FELOSUMAY_PARTICULARS_BYTES FELOSUMAY_ROUNDED(176)
 #define FELOSUMAY_OWN_PARAMETERS_BYTES(count) ((count) == 0 ? (uint64_t)0 : FELOSUMAY_ROUNDED(24) + (256 + 48) * (uint64_t)(count))
 #define FELOSUMAY_VALUES_BYTES(count) (48 * (uint64_t)(count))
 #define FELOSUMAY_CHOICES_BYTES(count) ((count) == 0 ? (uint64_t)0 : FELOSUMAY_ROUNDED(3080))
 #define FELOSUMAY_LOCKS_BYTES(count) ((count) == 0 ? (uint64_t)0 : FELOSUMAY_ROUNDED(264))
+#define FELOSUMAY_MODES_BYTES(mode_count, slot_count) \
+    ((mode_count) == 0 ? (uint64_t)0                  \
+                       : FELOSUMAY_ROUNDED(24) + FELOSUMAY_ROUNDED(88 * (uint64_t)(mode_count)) + 48 * (uint64_t)(slot_count))
 #define FELOSUMAY_RESPONDER_BYTES(queue_size, entries, sub_devices)                                                             \
     (FELOSUMAY_ROUNDED(5856) + FELOSUMAY_ROUNDED(56 * (uint64_t)(sub_devices)) + 2 * FELOSUMAY_ROUNDED(12 * (uint64_t)(queue_size)) + \
      FELOSUMAY_ROUNDED(248 * (uint64_t)(queue_size)) + FELOSUMAY_ROUNDED(9 * (uint64_t)(entries)))
@@ -777,27 +797,39 @@ static inline const uint16_t *felosumay_without_of(const felosumay_profile *prof
 static inline const felosumay_choice *felosumay_choices_of(const felosumay_profile *profile) {
     return (const felosumay_choice *)felosumay_address(profile->choices, profile->choice_count);
 }
+static inline const felosumay_mode *felosumay_modes_of(const felosumay_profile *profile) {
+    return (const felosumay_mode *)felosumay_address(profile->modes, profile->mode_count);
+}
+static inline const felosumay_slot *felosumay_mode_slots_of(const felosumay_profile *profile) {
+    return (const felosumay_slot *)felosumay_address(profile->mode_slots, profile->mode_slot_count);
+}
 
 uint8_t felosumay_profile_fault_nonnull(const felosumay_profile *profile, const felosumay_parameter *parameters,
                                         uint64_t parameter_count, const uint16_t *without, uint64_t without_count,
-                                        const felosumay_choice *choices, uint64_t choice_count);
+                                        const felosumay_choice *choices, uint64_t choice_count, const felosumay_mode *modes,
+                                        uint64_t mode_count, const felosumay_slot *mode_slots, uint64_t mode_slot_count);
 static inline uint8_t felosumay_profile_fault(const felosumay_profile *profile) {
     return felosumay_profile_fault_nonnull(profile, felosumay_parameters_of(profile), profile->parameter_count,
                                            felosumay_without_of(profile), profile->without_count, felosumay_choices_of(profile),
-                                           profile->choice_count);
+                                           profile->choice_count, felosumay_modes_of(profile), profile->mode_count,
+                                           felosumay_mode_slots_of(profile), profile->mode_slot_count);
 }
 
 felosumay_result felosumay_responder_new_with_nonnull(felosumay_responder *responder, uint16_t maker, uint32_t device,
                                                       const felosumay_profile *profile, const felosumay_parameter *parameters,
                                                       uint64_t parameter_count, const uint16_t *without, uint64_t without_count,
-                                                      const felosumay_choice *choices, uint64_t choice_count, uint16_t queue_size,
-                                                      uint16_t entries, uint32_t first_job);
+                                                      const felosumay_choice *choices, uint64_t choice_count,
+                                                      const felosumay_mode *modes, uint64_t mode_count,
+                                                      const felosumay_slot *mode_slots, uint64_t mode_slot_count,
+                                                      uint16_t queue_size, uint16_t entries, uint32_t first_job);
 static inline felosumay_result felosumay_responder_new_with(felosumay_responder *responder, uint16_t maker, uint32_t device,
                                                             const felosumay_profile *profile, uint16_t queue_size, uint16_t entries,
                                                             uint32_t first_job) {
     return felosumay_responder_new_with_nonnull(responder, maker, device, profile, felosumay_parameters_of(profile),
                                                 profile->parameter_count, felosumay_without_of(profile), profile->without_count,
-                                                felosumay_choices_of(profile), profile->choice_count, queue_size, entries, first_job);
+                                                felosumay_choices_of(profile), profile->choice_count, felosumay_modes_of(profile),
+                                                profile->mode_count, felosumay_mode_slots_of(profile), profile->mode_slot_count,
+                                                queue_size, entries, first_job);
 }
 
 static inline felosumay_result felosumay_responder_new(felosumay_responder *responder, uint16_t maker, uint32_t device,
@@ -960,6 +992,7 @@ FELOSUMAY_ASSERT(sizeof(felosumay_search) == 8);
 FELOSUMAY_ASSERT(sizeof(felosumay_text) == 33);
 FELOSUMAY_ASSERT(sizeof(felosumay_personality) == 36);
 FELOSUMAY_ASSERT(sizeof(felosumay_slot) == 38);
+FELOSUMAY_ASSERT(sizeof(felosumay_mode) == 40);
 FELOSUMAY_ASSERT(sizeof(felosumay_sensor) == 46);
 FELOSUMAY_ASSERT(sizeof(felosumay_self_test) == 34);
 FELOSUMAY_ASSERT(sizeof(felosumay_status_text) == 36);
@@ -972,7 +1005,7 @@ FELOSUMAY_ASSERT(offsetof(felosumay_parameter, pid) == 16);
 FELOSUMAY_ASSERT(sizeof(felosumay_unit) == 432);
 FELOSUMAY_ASSERT(sizeof(felosumay_estimates) == 8);
 FELOSUMAY_ASSERT(sizeof(felosumay_workers) == 4);
-FELOSUMAY_ASSERT(sizeof(felosumay_profile) == 3936);
+FELOSUMAY_ASSERT(sizeof(felosumay_profile) == 3968);
 FELOSUMAY_ASSERT(offsetof(felosumay_profile, parameters) == 3608);
 FELOSUMAY_ASSERT(offsetof(felosumay_profile, parameter_count) == 3616);
 FELOSUMAY_ASSERT(offsetof(felosumay_profile, without) == 3624);
@@ -984,6 +1017,10 @@ FELOSUMAY_ASSERT(offsetof(felosumay_profile, choices) == 3656);
 FELOSUMAY_ASSERT(offsetof(felosumay_profile, choice_count) == 3664);
 FELOSUMAY_ASSERT(offsetof(felosumay_profile, lock_count) == 3672);
 FELOSUMAY_ASSERT(offsetof(felosumay_profile, binding_uid) == 3930);
+FELOSUMAY_ASSERT(offsetof(felosumay_profile, modes) == 3936);
+FELOSUMAY_ASSERT(offsetof(felosumay_profile, mode_count) == 3944);
+FELOSUMAY_ASSERT(offsetof(felosumay_profile, mode_slots) == 3952);
+FELOSUMAY_ASSERT(offsetof(felosumay_profile, mode_slot_count) == 3960);
 FELOSUMAY_ASSERT(sizeof(felosumay_job) == 16);
 FELOSUMAY_ASSERT(sizeof(felosumay_stepped) == 32);
 FELOSUMAY_ASSERT(offsetof(felosumay_stepped, replied) == 8);

@@ -88,8 +88,8 @@ inline result next_image(std::uint32_t key, const felosumay_image &first, const 
     return felosumay_images_next(key, &first, &second, payload.data(), payload.size(), header.data(), &area);
 }
 
-// Lend a profile the parameters of the maker's own, the PIDs of those that the fixture lacks, and the names of choices: from an array, a
-// std::vector or any other range with data and size, which has to stay the same until the responder is made.
+// Lend a profile the parameters of the maker's own, the PIDs of those that the fixture lacks, the names of choices, and the modes with their
+// slots: from an array, a std::vector or any other range with data and size, which has to stay the same until the responder is made.
 template <class Parameters> void lend_parameters(felosumay_profile &profile, const Parameters &parameters) noexcept {
     profile.parameters = std::data(parameters);
     profile.parameter_count = std::size(parameters);
@@ -101,6 +101,12 @@ template <class Pids> void lend_without(felosumay_profile &profile, const Pids &
 template <class Choices> void lend_choices(felosumay_profile &profile, const Choices &choices) noexcept {
     profile.choices = std::data(choices);
     profile.choice_count = std::size(choices);
+}
+template <class Modes, class Slots> void lend_modes(felosumay_profile &profile, const Modes &modes, const Slots &slots) noexcept {
+    profile.modes = std::data(modes);
+    profile.mode_count = std::size(modes);
+    profile.mode_slots = std::data(slots);
+    profile.mode_slot_count = std::size(slots);
 }
 
 // Extracts packets and levels from what a UART receives. It owns nothing, and may be copied.

@@ -26,7 +26,7 @@ extern "C" {
  *     FELOSUMAY_ALIGNED static uint8_t memory[FELOSUMAY_RESPONDER_BYTES(8, 64, 0)];
  *
  * A profile with unusual features needs more: felosumay.h says which of FELOSUMAY_PARTICULARS_BYTES,
- * FELOSUMAY_OWN_PARAMETERS_BYTES, FELOSUMAY_VALUES_BYTES, FELOSUMAY_CHOICES_BYTES and FELOSUMAY_LOCKS_BYTES to add.
+ * FELOSUMAY_OWN_PARAMETERS_BYTES, FELOSUMAY_VALUES_BYTES, FELOSUMAY_CHOICES_BYTES, FELOSUMAY_LOCKS_BYTES and FELOSUMAY_MODES_BYTES to add.
  *
  * UNALIGNED; SHORT_MEMORY, if there are fewer bytes than FELOSUMAY_RESPONDER_BYTES of these sizes and the profile's sub-devices;
  * IN_USE, if a responder lies in some of it; and then as `new_with`, in this order, where OUT_OF_MEMORY means that there is no room for

@@ -37,6 +37,8 @@ static const felosumay_profile PROFILE = {
     NULL, 0, 0, {{0, 0}},
     /* one port */
     {0},
+    /* no personalities with slots of their own */
+    NULL, 0, NULL, 0,
 };
 
 static void print_bytes(const char *what, const uint8_t *bytes, uint64_t count) {

@@ -54,6 +54,8 @@ static const felosumay_profile PROFILE = {
     1, {{FELOSUMAY_PID_DMX_START_ADDRESS, 1}},
     /* one port */
     {0},
+    /* no personalities with slots of their own */
+    NULL, 0, NULL, 0,
 };
 
 /* What the firmware does with an order: it reads its data, which no GET reads, and carries it out once the reply is on the line. */

@@ -67,6 +67,7 @@ static void sizes(void) {
 static void expect_more(const char *what, uint64_t more) {
     const uint64_t bytes = FELOSUMAY_RESPONDER_BYTES(2, 1, 0);
     felosumay_responder responder = {0};
+    expect("more memory than there is", bytes + more > sizeof memory, 0);
     expect(what, make(&responder, memory, bytes + more, 2, 1), FELOSUMAY_DONE);
     if (felosumay_arenas != NULL)
         expect(what, (unsigned)(felosumay_arenas->end - felosumay_arenas->free), 0);
@@ -170,6 +171,35 @@ static void names_and_locks(void) {
     profile.parameter_count = profile.choice_count = profile.lock_count = 0;
 }
 
+/* And so does one with modes: of each number of them, the last of which has each number of slots of its own. */
+static void modes(void) {
+    static felosumay_mode all[247];
+    static felosumay_slot slots[46];
+    profile.modes = all;
+    profile.mode_slots = slots;
+    profile.mode_slot_count = sizeof slots / sizeof *slots;
+    for (uint16_t count = 1; count <= 247; count++) {
+        profile.mode_count = count;
+        expect_more("modes without slots", FELOSUMAY_PARTICULARS_BYTES + FELOSUMAY_MODES_BYTES(count, 0));
+        all[count - 1].slot_count = (uint8_t)(count % 47);
+        expect_more("a mode with slots", FELOSUMAY_PARTICULARS_BYTES + FELOSUMAY_MODES_BYTES(count, count % 47));
+        all[count - 1].slot_count = 0;
+    }
+    for (uint16_t i = 0; i < 100; i++)
+        all[i].slot_count = 46;
+    profile.mode_count = 100;
+    expect_more("100 modes of 46 slots", FELOSUMAY_PARTICULARS_BYTES + FELOSUMAY_MODES_BYTES(100, 100 * 46));
+    for (uint16_t i = 1; i < 247; i++) {
+        all[i].slot_count = 0;
+        all[i].slots_of = 2;
+    }
+    profile.mode_count = 247;
+    expect_more("247 modes with the same slots", FELOSUMAY_PARTICULARS_BYTES + FELOSUMAY_MODES_BYTES(247, 46));
+    profile.modes = NULL;
+    profile.mode_slots = NULL;
+    profile.mode_count = profile.mode_slot_count = 0;
+}
+
 /* What is refused, and leaves the memory free. */
 static void refusals(void) {
     felosumay_responder responder = {0};
@@ -248,6 +278,7 @@ int main(void) {
     particulars();
     own_parameters();
     names_and_locks();
+    modes();
     refusals();
     in_use();
     numbers();

@@ -25,6 +25,7 @@ static const felosumay_profile PROFILE = {
     0, 0, 0,
     NULL, 0, 0, {{0, 0}},
     {0},
+    NULL, 0, NULL, 0,
 };
 
 /* A request, and the reply that it is to have. */

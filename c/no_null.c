@@ -17,28 +17,36 @@ static felosumay_result look(const void *address, uint64_t count) {
     return FELOSUMAY_DONE;
 }
 
-/* The three lists of a profile. */
+/* The five lists of a profile. */
 static felosumay_result look_at_lists(const void *parameters, uint64_t parameter_count, const void *without, uint64_t without_count,
-                                      const void *choices, uint64_t choice_count) {
+                                      const void *choices, uint64_t choice_count, const void *modes, uint64_t mode_count,
+                                      const void *mode_slots, uint64_t mode_slot_count) {
     look(parameters, parameter_count);
     look(without, without_count);
-    return look(choices, choice_count);
+    look(choices, choice_count);
+    look(modes, mode_count);
+    return look(mode_slots, mode_slot_count);
 }
 
 uint8_t felosumay_profile_fault_nonnull(const felosumay_profile *profile, const felosumay_parameter *parameters,
                                         uint64_t parameter_count, const uint16_t *without, uint64_t without_count,
-                                        const felosumay_choice *choices, uint64_t choice_count) {
+                                        const felosumay_choice *choices, uint64_t choice_count, const felosumay_mode *modes,
+                                        uint64_t mode_count, const felosumay_slot *mode_slots, uint64_t mode_slot_count) {
     (void)profile;
-    return look_at_lists(parameters, parameter_count, without, without_count, choices, choice_count);
+    return look_at_lists(parameters, parameter_count, without, without_count, choices, choice_count, modes, mode_count, mode_slots,
+                         mode_slot_count);
 }
 
 felosumay_result felosumay_responder_new_with_nonnull(felosumay_responder *responder, uint16_t maker, uint32_t device,
                                                       const felosumay_profile *profile, const felosumay_parameter *parameters,
                                                       uint64_t parameter_count, const uint16_t *without, uint64_t without_count,
-                                                      const felosumay_choice *choices, uint64_t choice_count, uint16_t queue_size,
-                                                      uint16_t entries, uint32_t first_job) {
+                                                      const felosumay_choice *choices, uint64_t choice_count,
+                                                      const felosumay_mode *modes, uint64_t mode_count,
+                                                      const felosumay_slot *mode_slots, uint64_t mode_slot_count,
+                                                      uint16_t queue_size, uint16_t entries, uint32_t first_job) {
     (void)responder, (void)maker, (void)device, (void)profile, (void)queue_size, (void)entries, (void)first_job;
-    return look_at_lists(parameters, parameter_count, without, without_count, choices, choice_count);
+    return look_at_lists(parameters, parameter_count, without, without_count, choices, choice_count, modes, mode_count, mode_slots,
+                         mode_slot_count);
 }
 
 felosumay_result felosumay_responder_step_nonnull(felosumay_responder *responder, const uint8_t *bytes, uint64_t length,
@@ -120,7 +128,9 @@ static void call_each(void) {
     profile.parameters = (const felosumay_parameter *)passed;
     profile.without = (const uint16_t *)passed;
     profile.choices = (const felosumay_choice *)passed;
-    profile.parameter_count = profile.without_count = profile.choice_count = count;
+    profile.modes = (const felosumay_mode *)passed;
+    profile.mode_slots = (const felosumay_slot *)passed;
+    profile.parameter_count = profile.without_count = profile.choice_count = profile.mode_count = profile.mode_slot_count = count;
     felosumay_profile_fault(&profile);
     felosumay_responder_new(NULL, 0, 0, &profile, 0);
     felosumay_responder_new_with(NULL, 0, 0, &profile, 0, 0, 0);
@@ -147,7 +157,7 @@ int main(void) {
     passed = parameters;
     passed_count = 2;
     call_each();
-    if (calls != 4 * 21)
-        printf("%d calls, not 4 times 21\n", calls);
-    return wrong != 0 || calls != 4 * 21;
+    if (calls != 4 * 27)
+        printf("%d calls, not 4 times 27\n", calls);
+    return wrong != 0 || calls != 4 * 27;
 }

@@ -48,6 +48,8 @@ static const felosumay_profile PROFILE = {
     NULL, 0, 0, {{0, 0}},
     /* one port */
     {0},
+    /* no personalities with slots of their own */
+    NULL, 0, NULL, 0,
 };
 
 /* Asks the fixture, and prints its reply. */

@@ -380,6 +380,91 @@ static void ports(void) {
     expect(24, "no binding UID", FELOSUMAY_DONE);
 }
 
+/* The least profile with a personality of the root's unit and these modes, which share so many slots. */
+static felosumay_mode *mode(uint64_t count, uint64_t slots) {
+    static felosumay_mode modes[248];
+    static felosumay_slot mode_slots[47];
+    memset(modes, 0, sizeof modes);
+    least()->modes = modes;
+    profile.mode_count = count;
+    profile.mode_slots = mode_slots;
+    profile.mode_slot_count = slots;
+    return modes;
+}
+
+/* How many modes there are, and how large each is. */
+static void modes(void) {
+    mode(247, 0);
+    expect(25, "247 modes", FELOSUMAY_DONE);
+    profile.mode_count = 248;
+    expect(25, "248 modes", FELOSUMAY_BAD_PROFILE);
+    profile.language_count = 0;
+    expect(7, "248 modes, and no language", FELOSUMAY_BAD_PROFILE);
+    mode(2, 0)[1].footprint = 512;
+    expect(26, "a mode of 512 slots", FELOSUMAY_DONE);
+    mode(2, 0)[1].footprint = 513;
+    expect(26, "a mode of 513 slots", FELOSUMAY_BAD_PROFILE);
+}
+
+/* The slots that a mode has of its own. */
+static void own_slots(void) {
+    mode(1, 46)[0].slot_count = 46;
+    expect(27, "46 slots of its own", FELOSUMAY_DONE);
+    mode(1, 45)[0].slot_count = 46;
+    expect(27, "46 slots of 45", FELOSUMAY_BAD_PROFILE);
+    mode(1, 47)[0].slot_count = 47;
+    expect(27, "47 slots of its own", FELOSUMAY_BAD_PROFILE);
+    felosumay_mode *first = mode(1, 47);
+    first[0].slot_count = 46;
+    first[0].first_slot = 1;
+    expect(27, "46 slots of its own, behind one that nobody has", FELOSUMAY_DONE);
+    first = mode(2, 4);
+    first[0].first_slot = 4;
+    expect(27, "no slots, behind the last", FELOSUMAY_DONE);
+    first[0].first_slot = 5;
+    expect(27, "no slots, one behind that", FELOSUMAY_BAD_PROFILE);
+    first[0].first_slot = 2;
+    first[0].slot_count = first[1].slot_count = 2;
+    first[1].first_slot = 1;
+    expect(27, "slots that two modes have", FELOSUMAY_DONE);
+    first[0].slot_count = 3;
+    expect(27, "a slot behind the last", FELOSUMAY_BAD_PROFILE);
+    first[0].first_slot = 65535;
+    first[0].slot_count = 255;
+    expect(27, "255 slots far behind it", FELOSUMAY_BAD_PROFILE);
+}
+
+/* The personality whose slots a mode has. Number 1 is the root's unit's, 2 to 4 are modes, of which 2 has slots of its own. */
+static void shared_slots(void) {
+    felosumay_mode *first = mode(3, 4);
+    first[0].slot_count = 4;
+    first[1].slots_of = 1;
+    first[2].slots_of = 2;
+    expect(27, "the slots of numbers 1 and 2", FELOSUMAY_DONE);
+    first[1].slots_of = 0;
+    expect(27, "slots of its own, of which there are none", FELOSUMAY_DONE);
+    first[1].slots_of = 3;
+    expect(27, "the slots of itself", FELOSUMAY_BAD_PROFILE);
+    first[1].slots_of = 4;
+    expect(27, "the slots of one that has those of another", FELOSUMAY_BAD_PROFILE);
+    first[1].slots_of = 5;
+    expect(27, "the slots of none", FELOSUMAY_BAD_PROFILE);
+    first[1].slots_of = 255;
+    expect(27, "the slots of number 255", FELOSUMAY_BAD_PROFILE);
+    first[1].slots_of = 2;
+    expect(27, "the slots of number 2 twice", FELOSUMAY_DONE);
+    first[1].slot_count = 1;
+    expect(27, "the slots of number 2, and one of its own", FELOSUMAY_BAD_PROFILE);
+    mode(247, 0)[246].slots_of = 8;
+    profile.root.personality_count = 255; /* they stand for 8 */
+    expect(27, "255 personalities, of which the last has the slots of number 8", FELOSUMAY_DONE);
+    profile.root.personality_count = 7;
+    expect(27, "the same, where number 8 is a mode", FELOSUMAY_DONE);
+    profile.modes = NULL;
+    profile.mode_count = 0;
+    expect(27, "no modes", FELOSUMAY_DONE);
+}
+
 /* A choice, and what its things are called. */
 static void names(void) {
     static felosumay_choice choices[65];
@@ -425,5 +510,8 @@ int main(void) {
     locks();
     locked();
     ports();
+    modes();
+    own_slots();
+    shared_slots();
     return failed;
 }

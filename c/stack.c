@@ -7,14 +7,17 @@
 #include <pthread.h>
 #include <stdio.h>
 
-enum { STACK = 1 << 18, PAINT = 0xA5, UNPAINTED = 256, MOST_TO_MAKE = 12 * 1024, MOST = 2 * 1024 };
+enum { STACK = 1 << 18, PAINT = 0xA5, UNPAINTED = 256, MOST_TO_MAKE = 12 * 1024, MOST = 2 * 1024, MOST_MODES = 247 };
 
 FELOSUMAY_ALIGNED static uint8_t memory[FELOSUMAY_RESPONDER_BYTES(8, 64, 512) + FELOSUMAY_PARTICULARS_BYTES +
-                                        FELOSUMAY_OWN_PARAMETERS_BYTES(32) + FELOSUMAY_CHOICES_BYTES(64) + FELOSUMAY_LOCKS_BYTES(64)];
+                                        FELOSUMAY_OWN_PARAMETERS_BYTES(32) + FELOSUMAY_CHOICES_BYTES(64) + FELOSUMAY_LOCKS_BYTES(64) +
+                                        FELOSUMAY_MODES_BYTES(MOST_MODES, MOST_MODES)];
 FELOSUMAY_ALIGNED static uint8_t stack[STACK];
 static felosumay_profile profile;
 static felosumay_parameter parameters[32];
 static felosumay_choice choices[64];
+static felosumay_mode modes[MOST_MODES];
+static felosumay_slot mode_slots[1];
 static felosumay_responder fixture;
 static felosumay_result result;
 
@@ -121,9 +124,20 @@ static void add_parameters(void) {
     profile.choice_count = profile.lock_count = 64;
 }
 
+/* As many modes as there can be, each with a slot of its own. */
+static void add_modes(void) {
+    for (int i = 0; i < MOST_MODES; i++)
+        modes[i].slot_count = 1;
+    profile.modes = modes;
+    profile.mode_count = MOST_MODES;
+    profile.mode_slots = mode_slots;
+    profile.mode_slot_count = 1;
+}
+
 int main(void) {
     int failed;
     add_parameters();
+    add_modes();
     profile.subs = 512;
     profile.root.personality_count = profile.sub.personality_count = 1;
     profile.root.start = profile.sub.start = 1;

@@ -1,5 +1,5 @@
 // A fixture and a console in C++, by felosumay.hpp: a search finds the fixture, a command is rejected, a lamp is struck, and handles move;
-// and a fixture with a parameter of its maker's own.
+// and a fixture with a parameter of its maker's own, and one with a mode.
 #include "felosumay.hpp"
 #include "felosumay_names.h"
 #include <cstdio>
@@ -88,6 +88,31 @@ int add_parameter() {
     return 0;
 }
 
+// The least fixture with one more personality, which has a slot of its own.
+int add_mode() {
+    std::vector<felosumay_mode> modes(1);
+    std::vector<felosumay_slot> slots(1);
+    modes[0].footprint = 1;
+    modes[0].slot_count = 1;
+    slots[0].value = 0x80;
+    felosumay_profile profile{};
+    profile.root.personality_count = profile.sub.personality_count = 1;
+    profile.root.start = profile.sub.start = 1;
+    profile.language_count = 1;
+    felosumay::lend_modes(profile, modes, slots);
+
+    felosumay::responder fixture;
+    felosumay::value value;
+    std::uint16_t reason = 0;
+    const std::uint8_t second[] = {2};
+    if (fixture.make(FIXTURE, profile, 8) != FELOSUMAY_DONE ||
+        fixture.place(0, FELOSUMAY_PID_DMX_PERSONALITY, second) != FELOSUMAY_DONE ||
+        fixture.get_value(0, FELOSUMAY_PID_DEFAULT_SLOT_VALUE, {}, value, reason) != FELOSUMAY_DONE)
+        return 1;
+    std::printf("slot %u of personality 2: %u\n", value.room[1], value.room[2]);
+    return 0;
+}
+
 // The first image of two bytes, which the first area holds then.
 int keep_image() {
     const std::uint8_t payload[] = {1, 2};
@@ -142,5 +167,5 @@ int main() {
     std::printf("lamp %u\n", value.room[0]);
     const felosumay::result refused = fixture.get_value(0, FELOSUMAY_PID_SENSOR_DEFINITION, far, value, reason);
     std::printf("no such sensor: %s, %s\n", felosumay::status_name(refused).data(), felosumay::reason_name(reason).data());
-    return keep_image() != 0 ? 1 : add_parameter();
+    return keep_image() != 0 || add_mode() != 0 ? 1 : add_parameter();
 }

@@ -35,4 +35,6 @@ const felosumay_profile PROFILE = {
     NULL, 0, 0, {{0, 0}},
     /* one port */
     {0},
+    /* no personalities with slots of their own */
+    NULL, 0, NULL, 0,
 };

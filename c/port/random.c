@@ -1,6 +1,7 @@
 /* A program of random steps, the same on each target: requests good and bad, reports of jobs, changes at the menu, values that are placed
- * and read, notes, messages that wait or are dropped, saved images and restarts, on a fixture with sub-devices, parameters of its own, names of choices and locks. What comes
- * back goes into a sum, which is printed after each tenth of the steps. STEPS says how many there are. c/port/check compares the targets. */
+ * and read, notes, messages that wait or are dropped, saved images and restarts, on a fixture with sub-devices, parameters of its own, names
+ * of choices, locks and modes. What comes back goes into a sum, which is printed after each tenth of the steps. STEPS says how many there
+ * are. c/port/check compares the targets. */
 #include "../felosumay.h"
 #include "../felosumay_names.h"
 #include <stdio.h>
@@ -16,6 +17,8 @@ static felosumay_responder fixture;
 static felosumay_profile profile;
 static felosumay_parameter own[OWN];
 static felosumay_choice choices[4];
+static felosumay_mode modes[2];
+static felosumay_slot mode_slots[4];
 static felosumay_job jobs[MOST_JOBS];
 static uint32_t job_count, sum = 2166136261u;
 static uint64_t state = 0x9E3779B97F4A7C15u;
@@ -91,6 +94,25 @@ static void describe_parameters(void) {
     profile.locks[0].pid = FELOSUMAY_PID_DEVICE_LABEL;
 }
 
+/* Personality 3, with three slots of its own, and 4, which has the same. */
+static void describe_modes(void) {
+    modes[0].footprint = 5;
+    modes[0].first_slot = 1;
+    modes[0].slot_count = 3;
+    modes[1].footprint = 2;
+    modes[1].slots_of = 3;
+    for (uint8_t i = 0; i < 4; i++) {
+        mode_slots[i].label = (uint16_t)(0x0101 + i);
+        mode_slots[i].value = (uint8_t)(0x40 + i);
+        mode_slots[i].name.count = i;
+        memset(mode_slots[i].name.bytes, 'a' + i, i);
+    }
+    profile.modes = modes;
+    profile.mode_count = 2;
+    profile.mode_slots = mode_slots;
+    profile.mode_slot_count = 4;
+}
+
 static void describe(void) {
     profile.root.model = profile.sub.model = 0x11;
     profile.root.personality_count = profile.sub.personality_count = 2;
@@ -110,6 +132,7 @@ static void describe(void) {
     profile.status_text_count = 1;
     profile.status_texts[0].id = 0x8001;
     describe_parameters();
+    describe_modes();
 }
 
 static void make(void) {
@@ -208,7 +231,7 @@ static void change(void) {
     for (uint32_t i = 0; i < sizeof label; i++)
         label[i] = (uint8_t)any(256);
     add(felosumay_responder_change_start(&fixture, (uint16_t)any(514)));
-    add(felosumay_responder_change_personality(&fixture, (uint8_t)any(4)));
+    add(felosumay_responder_change_personality(&fixture, (uint8_t)any(6)));
     add(felosumay_responder_change_label(&fixture, label, any(34)));
     add(felosumay_responder_place(&fixture, sub, pid, label, any(10)));
 }

@@ -50,6 +50,7 @@ bench_can_be_made true subs few =
           held = All-from_recursion (λ (l : Lock). IsTrue (can_hold [] own_numbers l)) [] tt;
         };
         binding = good.binding;
+        modes = good.modes;
       },
     )
 bench_can_be_made false subs few = demo_can_be_made subs few

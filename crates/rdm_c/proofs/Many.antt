@@ -1,18 +1,22 @@
 -- The rules of a profile, judged in parts: without parameters of the maker's own, these alone, and what the things of choices are called.
-use Rattle.std.proofs.Common.{◌≡◌, sym, ℕ, ◌≤◌, ◌<◌, List, [], Option, Some, None, IfSome, IsTrue, length, subst, arith}
+use Rattle.std.proofs.Common.{◌≡◌, sym, ℕ, ◌≤◌, ◌<◌, List, [], Option, Some, None, IfSome, IsTrue, length, map, subst, arith}
+use Rattle.std.specs.Prelude.{All}
 use Rattle.rdm_profile.specs.declared.profile.Profile.{Profile}
 use Rattle.rdm_profile.specs.declared.profile.choices.ChoiceName.{ChoiceName}
 use Rattle.rdm_profile.specs.declared.profile.locks.Lock.{Lock}
+use Rattle.rdm_profile.specs.declared.profile.modes.Mode.{Mode}
+use Rattle.rdm_profile.specs.declared.profile.modes.ModeShape.{ModeShape}
 use Rattle.rdm_profile.specs.declared.profile.own.ParameterDef.{ParameterDef}
 use Rattle.rdm_profile.specs.declared.profile.particulars.Particular.{Particular}
 use Rattle.rdm_profile_rules.specs.declared.faults.ProfileFault.{ProfileFault}
-use Rattle.rdm_profile_rules.specs.declared.faults.ProfileFault.TheVariants.{SubDevices, Presets, Personalities, Start, RootFootprint, SubFootprint, Languages, TestNumber, TwinTests, TwinStatusTexts, LeftOut, LeftOutNeeded, ParameterCount, ParameterPid, ParameterLimits, ParameterStart, ParameterOrder, ParameterFields, ParameterStandard, ParameterNames, ParameterLocks, ParameterLockState, ParameterLocked, BindingUid}
-use Rattle.rdm_profile_rules.specs.Faults.{Keeps, KeepsBefore, KeepsLeftOut, KeepsOwn, KeepsParameters, IsFirstBroken, with_parameters}
-use Rattle.rdm_profile.specs.Profiles.{Agree, AreGoodLocks, AreGoodParameters, CanBeMade, CanHold, CanOpen, HaveStates}
+use Rattle.rdm_profile_rules.specs.declared.faults.ProfileFault.TheVariants.{SubDevices, Presets, Personalities, Start, RootFootprint, SubFootprint, Languages, TestNumber, TwinTests, TwinStatusTexts, LeftOut, LeftOutNeeded, ParameterCount, ParameterPid, ParameterLimits, ParameterStart, ParameterOrder, ParameterFields, ParameterStandard, ParameterNames, ParameterLocks, ParameterLockState, ParameterLocked, BindingUid, ModeCount, ModeFootprint, ModeSlots}
+use Rattle.rdm_profile_rules.specs.Faults.{Keeps, KeepsBefore, KeepsBinding, KeepsLeftOut, KeepsOwn, KeepsParameters, IsFirstBroken, with_parameters}
+use Rattle.rdm_profile.specs.Profiles.{Agree, AreGoodLocks, AreGoodModes, AreGoodParameters, CanBeMade, CanHold, CanOpen, HaveStates}
 use Rattle.std.proofs.lemmas.List.Elements.{All-from_recursion}
 use Rattle.rdm_profile.specs.Locks.{can_hold}
+use Rattle.rdm_profile.specs.Modes.{has_slots, mode_shapes, shape_of}
 use Rattle.rdm_profile.specs.MuteReply.{can_bind}
-use Rattle.rdm_profile.proofs.DemoLemmas.{none_good, none_locked}
+use Rattle.rdm_profile.proofs.DemoLemmas.{no_modes, none_good, none_locked}
 use Rattle.rdm_profile_rules.proofs.FirstFaults.{keeps_before, keeps_others, made}
 use Rattle.rdm_c.specs.Parameters.{HasOwn}
 
@@ -20,36 +24,42 @@ use Rattle.rdm_c.specs.Parameters.{HasOwn}
 none_held : (without : List ℕ) → CanHold without [] []
 none_held without = All-from_recursion (λ (l : Lock). IsTrue (can_hold without [] l)) [] tt
 
--- the first rule that a profile breaks without parameters of the maker's own and locks is the first that it breaks with what sets it apart
-pub still_first : (f : ProfileFault) (p : Profile) (x : Particular) → p.particulars.locks ≡ [] → IsTrue (can_bind p.particulars.mute_reply.binding) → IsFirstBroken f (with_parameters p x.more_slots x.without.items [] []) → IsFirstBroken f (record p { particulars = x })
-still_first SubDevices p x none binds h = h
-still_first Presets p x none binds h = h
-still_first Personalities p x none binds h = h
-still_first Start p x none binds h = h
-still_first RootFootprint p x none binds h = h
-still_first SubFootprint p x none binds h = h
-still_first Languages p x none binds h = h
-still_first TestNumber p x none binds h = h
-still_first TwinTests p x none binds h = h
-still_first TwinStatusTexts p x none binds h = h
-still_first LeftOut p x none binds h = h
-still_first LeftOutNeeded p x none binds h = h
-still_first ParameterCount p x none binds h = absurd (h.1 none_good.count)
-still_first ParameterPid p x none binds h = absurd (h.1 none_good.pids)
-still_first ParameterLimits p x none binds h = absurd (h.1 none_good.limits)
-still_first ParameterStart p x none binds h = absurd (h.1 none_good.starts)
-still_first ParameterOrder p x none binds h = absurd (h.1 none_good.ascending)
-still_first ParameterFields p x none binds h = absurd (h.1 none_good.fields)
-still_first ParameterStandard p x none binds h = absurd (h.1 none_good.standards)
-still_first ParameterNames p x none binds h = absurd (h.1 none_good.agree)
-still_first ParameterLocks p x none binds h = absurd (h.1 (subst (λ (ls : List Lock). HaveStates [] ls) (sym none) none_locked.states))
-still_first ParameterLockState p x none binds h = absurd (h.1 none_locked.opened)
-still_first ParameterLocked p x none binds h = absurd (h.1 (subst (λ (ls : List Lock). CanHold x.without.items [] ls) (sym none) (none_held x.without.items)))
-still_first BindingUid p x none binds h = absurd (h.1 binds)
+-- the first rule that a profile breaks without parameters of the maker's own, locks and modes is the first that it breaks with what sets it
+-- apart
+pub still_first : (f : ProfileFault) (p : Profile) (x : Particular) → p.particulars.locks ≡ [] → IsTrue (can_bind p.particulars.mute_reply.binding) → p.particulars.modes ≡ [] → IsFirstBroken f (with_parameters p x.more_slots x.without.items [] []) → IsFirstBroken f (record p { particulars = x })
+still_first SubDevices p x none binds plain h = h
+still_first Presets p x none binds plain h = h
+still_first Personalities p x none binds plain h = h
+still_first Start p x none binds plain h = h
+still_first RootFootprint p x none binds plain h = h
+still_first SubFootprint p x none binds plain h = h
+still_first Languages p x none binds plain h = h
+still_first TestNumber p x none binds plain h = h
+still_first TwinTests p x none binds plain h = h
+still_first TwinStatusTexts p x none binds plain h = h
+still_first LeftOut p x none binds plain h = h
+still_first LeftOutNeeded p x none binds plain h = h
+still_first ParameterCount p x none binds plain h = absurd (h.1 none_good.count)
+still_first ParameterPid p x none binds plain h = absurd (h.1 none_good.pids)
+still_first ParameterLimits p x none binds plain h = absurd (h.1 none_good.limits)
+still_first ParameterStart p x none binds plain h = absurd (h.1 none_good.starts)
+still_first ParameterOrder p x none binds plain h = absurd (h.1 none_good.ascending)
+still_first ParameterFields p x none binds plain h = absurd (h.1 none_good.fields)
+still_first ParameterStandard p x none binds plain h = absurd (h.1 none_good.standards)
+still_first ParameterNames p x none binds plain h = absurd (h.1 none_good.agree)
+still_first ParameterLocks p x none binds plain h = absurd (h.1 (subst (λ (ls : List Lock). HaveStates [] ls) (sym none) none_locked.states))
+still_first ParameterLockState p x none binds plain h = absurd (h.1 none_locked.opened)
+still_first ParameterLocked p x none binds plain h = absurd (h.1 (subst (λ (ls : List Lock). CanHold x.without.items [] ls) (sym none) (none_held x.without.items)))
+still_first BindingUid p x none binds plain h = absurd (h.1 binds)
+still_first ModeCount p x none binds plain h = absurd (h.1 (subst (λ (ms : List Mode). length (map shape_of ms) ≤ 247) (sym plain) (no_modes 0).count))
+still_first ModeFootprint p x none binds plain h = absurd (h.1 (subst (λ (ms : List Mode). All (λ (s : ModeShape). s.footprint ≤ 512) (map shape_of ms)) (sym plain) (no_modes 0).footprints))
+still_first ModeSlots p x none binds plain h =
+    let units = length p.root.personalities.items in
+    absurd (h.1 (subst (λ (ms : List Mode). All (λ (s : ModeShape). IsTrue (has_slots units (map shape_of ms) s)) (map shape_of ms)) (sym plain) (no_modes units).slots))
 
-pub still_first_if : (result : Option ProfileFault) (p : Profile) (x : Particular) → p.particulars.locks ≡ [] → IsTrue (can_bind p.particulars.mute_reply.binding) → IfSome result (λ f. IsFirstBroken f (with_parameters p x.more_slots x.without.items [] [])) → IfSome result (λ f. IsFirstBroken f (record p { particulars = x }))
-still_first_if None p x none binds h = tt
-still_first_if (Some f) p x none binds h = still_first f p x none binds h
+pub still_first_if : (result : Option ProfileFault) (p : Profile) (x : Particular) → p.particulars.locks ≡ [] → IsTrue (can_bind p.particulars.mute_reply.binding) → p.particulars.modes ≡ [] → IfSome result (λ f. IsFirstBroken f (with_parameters p x.more_slots x.without.items [] [])) → IfSome result (λ f. IsFirstBroken f (record p { particulars = x }))
+still_first_if None p x none binds plain h = tt
+still_first_if (Some f) p x none binds plain h = still_first f p x none binds plain h
 
 -- if it breaks none without them, it keeps the rules that don't speak of them
 pub keeps_left_out : (p : Profile) (x : Particular) → CanBeMade (with_parameters p x.more_slots x.without.items [] []) → KeepsLeftOut (record p { particulars = x })
@@ -60,11 +70,6 @@ keeps_left_out p x can =
 -- the parameters of the maker's own are good, with their names and locks
 abbrev pub HasGoodOwn : Profile → Type 0
 HasGoodOwn p = AreGoodParameters p.particulars.own p.particulars.choices × AreGoodLocks p.particulars.without.items p.particulars.own p.particulars.locks
-
--- a device can be made with a profile that keeps these, whose parameters are good, and whose binding UID is that of one port
-pub made_with : (p : Profile) → KeepsLeftOut p → HasGoodOwn p → IsTrue (can_bind p.particulars.mute_reply.binding) → CanBeMade p
-made_with p h good binds =
-    made p p.particulars.more_slots p.particulars.without.items p.particulars.own p.particulars.choices h.0 (record { optional = h.1; needs = h.2 }, good.0, good.1) binds
 
 -- the rules before that of the binding UID
 pub before_binding : (p : Profile) → KeepsLeftOut p → HasGoodOwn p → KeepsParameters p
@@ -78,6 +83,18 @@ good_own ds cs h agree =
 
 pub keeps_own : (ds : List ParameterDef) (cs : List ChoiceName) → AreGoodParameters ds cs → KeepsOwn ds
 keeps_own ds cs good = (good.count, good.pids, good.limits, good.starts, good.ascending, good.fields, good.standards)
+
+-- a device can be made with a profile that keeps the rules before those of modes, and whose modes are good
+pub made_with : (p : Profile) → KeepsBinding p → AreGoodModes (length p.root.personalities.items) (mode_shapes p) → CanBeMade p
+made_with p h modes =
+    let named = h.0.0 in
+    let listed = named.0 in
+    let own = good_own p.particulars.own p.particulars.choices (listed.1, listed.2, listed.3, listed.4, listed.5, named.1, named.2) named.3 in
+    made p p.particulars.more_slots p.particulars.without.items p.particulars.own p.particulars.choices listed.0.0 (
+      record { optional = listed.0.1; needs = listed.0.2 },
+      own,
+      record { states = h.0.1; opened = h.0.2; held = h.0.3 },
+    ) h.1 modes
 
 -- the rules before that of names
 pub before_names : (p : Profile) (ds : List ParameterDef) → p.particulars.own ≡ ds → KeepsLeftOut p → KeepsOwn ds → KeepsBefore ParameterNames p
@@ -147,3 +164,6 @@ keeps_each ParameterLocks p can = can.1.locks.states
 keeps_each ParameterLockState p can = can.1.locks.opened
 keeps_each ParameterLocked p can = can.1.locks.held
 keeps_each BindingUid p can = can.1.binding
+keeps_each ModeCount p can = can.1.modes.count
+keeps_each ModeFootprint p can = can.1.modes.footprints
+keeps_each ModeSlots p can = can.1.modes.slots

@@ -1,7 +1,7 @@
 -- Which rule of profiles is broken, as the header numbers the rules.
 use Rattle.std.specs.Prelude.{ℕ, ◌==◌, if◌then◌else◌, Option, Some, None}
 use Rattle.rdm_profile_rules.specs.declared.faults.ProfileFault.{ProfileFault}
-use Rattle.rdm_profile_rules.specs.declared.faults.ProfileFault.TheVariants.{SubDevices, Presets, Personalities, Start, RootFootprint, SubFootprint, Languages, TestNumber, TwinTests, TwinStatusTexts, LeftOut, LeftOutNeeded, ParameterCount, ParameterPid, ParameterLimits, ParameterStart, ParameterOrder, ParameterFields, ParameterStandard, ParameterNames, ParameterLocks, ParameterLockState, ParameterLocked, BindingUid}
+use Rattle.rdm_profile_rules.specs.declared.faults.ProfileFault.TheVariants.{SubDevices, Presets, Personalities, Start, RootFootprint, SubFootprint, Languages, TestNumber, TwinTests, TwinStatusTexts, LeftOut, LeftOutNeeded, ParameterCount, ParameterPid, ParameterLimits, ParameterStart, ParameterOrder, ParameterFields, ParameterStandard, ParameterNames, ParameterLocks, ParameterLockState, ParameterLocked, BindingUid, ModeCount, ModeFootprint, ModeSlots}
 
 -- the rule of a number; 0 stands for none
 abbrev pub fault_in : ℕ → Option ProfileFault
@@ -29,4 +29,7 @@ fault_in number =
     else if number == 21 then Some ParameterLocks
     else if number == 22 then Some ParameterLockState
     else if number == 23 then Some ParameterLocked
-    else if number == 24 then Some BindingUid else None
+    else if number == 24 then Some BindingUid
+    else if number == 25 then Some ModeCount
+    else if number == 26 then Some ModeFootprint
+    else if number == 27 then Some ModeSlots else None

@@ -6,6 +6,7 @@ pub mod Jobs
 pub mod Making
 pub mod Outcomes
 pub mod Texts
+pub mod Modes
 pub mod Parameters
 pub mod Profiles
 pub mod Endpoints

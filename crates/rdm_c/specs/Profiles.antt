@@ -1,13 +1,13 @@
--- The profile that a plain struct of C's stands for, and three lists that lie outside of it: the parameters of the maker's own, the PIDs
--- of those that are left out, and the names of choices. A count that is greater than its array stands for the whole array.
-use Rattle.std.specs.Prelude.{ℕ, ◌&&◌, List, [], ◌==◌, not, map, take, Option, Some, None, if◌then◌else◌}
+-- The profile that a plain struct of C's stands for, and five lists that lie outside of it: the parameters of the maker's own, the PIDs of
+-- those that are left out, the names of choices, the modes, and the slots of these. A count that is greater than its array stands for the
+-- whole array.
+use Rattle.std.specs.Prelude.{ℕ, ◌&&◌, List, ◌==◌, not, map, take, Option, Some, None, if◌then◌else◌}
 use Rattle.rdm_frame.specs.declared.uid.Uid.{Uid}
 use Rattle.rdm_frame.specs.Reading.{uid_at}
 use Rattle.rdm_profile.specs.declared.profile.Personality.{Personality}
 use Rattle.rdm_profile.specs.declared.profile.Profile.{Profile}
 use Rattle.rdm_profile.specs.declared.profile.SelfTest.{SelfTest}
 use Rattle.rdm_profile.specs.declared.profile.SensorDef.{SensorDef}
-use Rattle.rdm_profile.specs.declared.profile.Slot.{Slot}
 use Rattle.rdm_profile.specs.declared.profile.StatusText.{StatusText}
 use Rattle.rdm_profile.specs.declared.profile.Unit.{Unit as DeviceUnit}
 use Rattle.rdm_profile.specs.declared.profile.estimates.Estimates.{Estimates}
@@ -28,16 +28,15 @@ use Rattle.rdm_c.specs.declared.profile.slow.EstimatesNumbers.{EstimatesNumbers}
 use Rattle.rdm_c.specs.declared.profile.slow.WorkersNumbers.{WorkersNumbers}
 use Rattle.rdm_c.specs.declared.profile.UnitNumbers.{UnitNumbers}
 use Rattle.rdm_c.specs.declared.profile.ProfileNumbers.{ProfileNumbers}
+use Rattle.rdm_c.specs.declared.profile.modes.ModeNumbers.{ModeNumbers}
 use Rattle.rdm_c.specs.declared.profile.parameters.ParameterNumbers.{ParameterNumbers}
 use Rattle.rdm_c.specs.declared.profile.parameters.ChoiceNumbers.{ChoiceNumbers}
+use Rattle.rdm_c.specs.Modes.{mode_in, slot_in}
 use Rattle.rdm_c.specs.Parameters.{parameter_in, choice_in, lock_in}
 use Rattle.rdm_c.specs.Texts.{text_in}
 
 abbrev pub personality_in : PersonalityNumbers → Personality
 personality_in p = record { footprint = p.footprint; name = text_in p.name }
-
-abbrev pub slot_in : SlotNumbers → Slot
-slot_in s = record { kind = s.kind; label = s.label; value = s.value; name = text_in s.name }
 
 abbrev pub sensor_in : SensorNumbers → SensorDef
 sensor_in s = record {
@@ -126,9 +125,9 @@ plain_profile_in p = record {
   particulars = usual_particular;
 }
 
--- what sets it apart, of the struct and of the three lists
-abbrev pub particular_in : ProfileNumbers → List ParameterNumbers → List ℕ → List ChoiceNumbers → Particular
-particular_in p parameters without choices = record {
+-- what sets it apart, of the struct and of the five lists
+abbrev pub particular_in : ProfileNumbers → List ParameterNumbers → List ℕ → List ChoiceNumbers → List ModeNumbers → List SlotNumbers → Particular
+particular_in p parameters without choices modes slots = record {
   own = map parameter_in parameters;
   choices = map choice_in choices;
   locks = map lock_in (take p.lock_count p.locks);
@@ -137,9 +136,10 @@ particular_in p parameters without choices = record {
   estimates = estimates_in p.estimates;
   mute_reply = mute_reply_in p;
   newest_only = not (p.newest_only == 0);
+  modes = map (mode_in slots) modes;
 }
 
--- the profile of the struct and of the three lists
-abbrev pub profile_in : ProfileNumbers → List ParameterNumbers → List ℕ → List ChoiceNumbers → Profile
-profile_in p parameters without choices =
-    record (plain_profile_in p) { particulars = particular_in p parameters without choices }
+-- the profile of the struct and of the five lists
+abbrev pub profile_in : ProfileNumbers → List ParameterNumbers → List ℕ → List ChoiceNumbers → List ModeNumbers → List SlotNumbers → Profile
+profile_in p parameters without choices modes slots =
+    record (plain_profile_in p) { particulars = particular_in p parameters without choices modes slots }

@@ -1,5 +1,5 @@
 -- What C is told of what waits at a responder, and of the jobs that its workers are at.
-use Rattle.std.specs.Prelude.{◌≡◌, ℕ, ◌<◌, false, Option, Some, None, option_map, slice_get}
+use Rattle.std.specs.Prelude.{◌≡◌, ℕ, false, Option, Some, None, option_map, slice_get}
 use Rattle.rdm_frame.specs.declared.message.Message.{Message}
 use Rattle.rdm_collector.specs.declared.any_device.collected.Collected.{Collected}
 use Rattle.rdm_collector.specs.declared.reply.Response.TheVariants.{Ack}

@@ -83,6 +83,7 @@ pub use left::LeftNumbers;
 pub use message::{CommandNumbers, HeardNumbers, MessageNumbers};
 pub use names::NameNumbers;
 pub use outcome::OutcomeNumbers;
+pub use profile::modes::ModeNumbers;
 pub use profile::parameters::ParameterNumbers;
 pub use profile::{
     PersonalityNumbers, ProfileNumbers, SelfTestNumbers, SensorNumbers, SlotNumbers,

@@ -6,7 +6,9 @@ ghost use Rattle.rdm_c.specs.Memory.{memory_size, memory_status, rounded};
 use crate::endpoint::Endpoint;
 use crate::status::Status;
 use arrayvec::ArrayVec;
-use rdm_device::{ChoiceName, CommonValues, Kept, Lock, ParameterDef, Particular, Profile};
+use rdm_device::{
+    ChoiceName, CommonValues, Kept, Lock, Mode, ParameterDef, Particular, Profile, Slot,
+};
 use rdm_outbox::Job;
 use rdm_params::Message;
 use std::mem::size_of;
@@ -46,7 +48,7 @@ const _: () = prove!(size_of::<Message>() == MESSAGE);
 const _: () = prove!(size_of::<Endpoint>() == RESPONDER);
 
 // What the header's macros say of what few profiles have.
-const _: () = prove!(size_of::<Particular>() == 160);
+const _: () = prove!(size_of::<Particular>() == 176);
 
 const _: () = prove!(size_of::<Vec<ParameterDef>>() == 24);
 
@@ -57,6 +59,12 @@ const _: () = prove!(size_of::<Kept>() == 48);
 const _: () = prove!(size_of::<ArrayVec<ChoiceName, 64>>() == 3080);
 
 const _: () = prove!(size_of::<ArrayVec<Lock, 64>>() == 264);
+
+const _: () = prove!(size_of::<Vec<Mode>>() == 24);
+
+const _: () = prove!(size_of::<Mode>() == 88);
+
+const _: () = prove!(size_of::<Slot>() == 48);
 
 /// How many bytes of memory a responder takes with room for so many results of slow commands and status entries, and with so
 /// many sub-devices.

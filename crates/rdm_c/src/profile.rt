@@ -2,15 +2,18 @@
 
 mod lists;
 pub(crate) mod making;
+pub(crate) mod modes;
 mod muting;
 pub(crate) mod parameters;
 pub(crate) mod slow;
 
 ghost use Rattle.std.specs.Prelude.{◌≡◌, ◌≤◌, length, take};
-ghost use Rattle.rdm_c.specs.Profiles.{personality_in, slot_in, sensor_in, test_in, status_text_in, unit_in, plain_profile_in};
+ghost use Rattle.rdm_c.specs.Modes.{slot_in};
+ghost use Rattle.rdm_c.specs.Profiles.{personality_in, sensor_in, test_in, status_text_in, unit_in, plain_profile_in};
 ghost use Rattle.rdm_c.specs.Texts.{text_in};
 
 use crate::profile::lists::Numbers;
+use crate::profile::modes::ModeNumbers;
 use crate::profile::parameters::{ChoiceNumbers, LockNumbers, ParameterNumbers};
 use crate::profile::slow::{EstimatesNumbers, WorkersNumbers};
 use rdm_frame::Text;
@@ -124,7 +127,7 @@ pub struct UnitNumbers {
 
 /// What a root device and its sub-devices are made with. The header calls it `felosumay_profile`.
 ///
-/// Its three pointers are never followed: a call that takes a profile takes the lists to which they point as slices beside it.
+/// Its five pointers are never followed: a call that takes a profile takes the lists to which they point as slices beside it.
 #[repr(C)]
 pub struct ProfileNumbers {
     /// The root device.
@@ -190,6 +193,14 @@ pub struct ProfileNumbers {
     pub locks: [LockNumbers; 64],
     /// The UID of its first port, if it has several, each with a UID of its own: six zeros if it has one port (section 7.6).
     pub binding_uid: [u8; 6],
+    /// Where the personalities of the root lie that are behind those of its unit, in the order of their numbers.
+    pub modes: *const ModeNumbers,
+    /// How many there are.
+    pub mode_count: usize,
+    /// Where the slots of all of these lie.
+    pub mode_slots: *const SlotNumbers,
+    /// How many there are.
+    pub mode_slot_count: usize,
 }
 
 impl TextNumbers {
@@ -267,6 +278,13 @@ impl Numbers<StatusText> for StatusTextNumbers {
 }
 
 impl UnitNumbers {
+    /// How many personalities it has.
+    fn personality_total(&self) -> usize
+        ensures { result ≡ length (unit_in self.now).personalities.items }
+    {
+        usize::from(self.personality_count).min(8)
+    }
+
     /// Makes a unit this one.
     fn write(&self, unit: &mut Unit)
         ensures { unit.new ≡ unit_in self.now }

@@ -8,6 +8,7 @@ use crate::left::LeftNumbers;
 use crate::message::{CommandNumbers, HeardNumbers, MessageNumbers};
 use crate::names::NameNumbers;
 use crate::outcome::OutcomeNumbers;
+use crate::profile::modes::ModeNumbers;
 use crate::profile::parameters::{ChoiceNumbers, FieldNumbers, LockNumbers, ParameterNumbers};
 use crate::profile::slow::{EstimatesNumbers, WorkersNumbers};
 use crate::profile::{
@@ -47,7 +48,9 @@ const _: () = prove!(size_of::<ParameterNumbers>() == 224);
 
 const _: () = prove!(size_of::<LockNumbers>() == 4);
 
-const _: () = prove!(size_of::<ProfileNumbers>() == 3936);
+const _: () = prove!(size_of::<ModeNumbers>() == 40);
+
+const _: () = prove!(size_of::<ProfileNumbers>() == 3968);
 
 const _: () = prove!(size_of::<JobNumbers>() == 16);
 

@@ -30,6 +30,7 @@ particular_of answers = record {
   estimates = estimates_with (sensor_estimate answers);
   mute_reply = plain_reply;
   newest_only = false;
+  modes = [];
 }
 
 abbrev pub profile_of : List Answer → Profile

@@ -18,8 +18,8 @@ use crate::texts::text_of;
 use crate::units::{personalities_of, sub_count, sub_of, unit_of};
 use arrayvec::ArrayVec;
 use rdm_device::{
-    ChoiceNames, Estimates, Locks, MuteReply, OwnParameters, Particular, Particulars, Profile,
-    Workers,
+    ChoiceNames, Estimates, Locks, Modes, MuteReply, OwnParameters, Particular, Particulars,
+    Profile, Workers,
 };
 use rdm_fixture::{Fixture, Starting, no_courses};
 use rdm_frame::Uid;
@@ -120,6 +120,7 @@ fn particulars_of(alloc: Global, answers: &[Answer]) -> Result<Particulars, Allo
         estimates: estimates_with(sensor),
         mute_reply: MuteReply::plain(),
         newest_only: false,
+        modes: Modes::none(),
     };
     Particulars::of(alloc, particular)
 }

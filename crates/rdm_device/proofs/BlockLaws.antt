@@ -14,6 +14,7 @@ use Rattle.rdm_device.specs.Columns.Changes.{stored_at}
 use Rattle.rdm_profile.specs.Forms.{word}
 use Rattle.rdm_device.specs.Device.Blocks.{sub_devices, has_slots, total, start_in, follow, base_if, base_address, started, started_from, keeps_start, BlockIsTold}
 use Rattle.rdm_added.specs.Map.{Entry, has_key, lookup, update}
+use Rattle.rdm_profile.specs.Modes.{with_modes}
 use Rattle.rdm_added.specs.Spot.{Spot, sub_device, footprint}
 use Rattle.rdm_profile.specs.Values.{word_slots}
 
@@ -50,7 +51,7 @@ new_start spot base (x ∷ es) e =
     one_new (has_key 0x00F0 0 x) x (word_slots base) (lookup (update (stored_at 0x00F0 word spot (Word base)) es) 0x00F0 0) (find (has_key 0x00F0 0) es) e (new_start spot base es)
 
 slots_by : Profile → List ℕ → ℕ
-slots_by profile bytes = option_map_or (λ m. m.footprint) (slice_get profile.sub.personalities.items (slice_index bytes 0 - 1)) 0
+slots_by profile bytes = option_map_or (λ m. m.footprint) (slice_get (with_modes profile.sub []) (slice_index bytes 0 - 1)) 0
 
 either_slots : (profile : Profile) (spot : Spot) (base : ℕ) (es : List Entry) (none : Bool) → footprint (sub_device profile (cond none es (update (stored_at 0x00F0 word spot (Word base)) es))) ≡ footprint (sub_device profile es)
 unfolding slots_by

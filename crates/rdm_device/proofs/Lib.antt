@@ -3,4 +3,5 @@ pub mod BlockSteps
 pub mod ListSteps
 pub mod SensorReads
 pub mod Sensors
+pub mod TwoLists
 pub mod Words

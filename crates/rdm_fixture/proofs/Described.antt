@@ -27,13 +27,15 @@ use Rattle.rdm_fixture.specs.Format.{IsUnit, SubDevices, LanguagesAt, IsProfile,
 use Rattle.rdm_courses.specs.declared.notice.Notice.{Notice}
 use Rattle.rdm_fixture.specs.Notices.{IsNotice, comes_again}
 use Rattle.rdm_fixture.specs.OverTime.{IsCourse, AreCourses, misfit}
+use Rattle.rdm_fixture.specs.OwnSlots.{IsMode}
 use Rattle.rdm_fixture.specs.Starting.{SaysPresent}
 use Rattle.rdm_fixture.specs.Working.{CanWork}
 use Rattle.rdm_fixture.specs.Describes.{Describes}
-use Rattle.rdm_fixture.specs.Describable.{are_printable, HasPrintableUnit, HasPrintableTexts, is_coded, is_counted, is_base_form, is_told, is_ruled, is_noticed, is_sayable, CanBeDescribed}
+use Rattle.rdm_fixture.specs.Describable.{are_printable, is_printable_mode, HasPrintableUnit, HasPrintableTexts, is_coded, is_counted, is_base_form, is_told, is_ruled, is_noticed, is_sayable, CanBeDescribed}
 use Rattle.rdm_fixture.proofs.ListEntries.{slot_count-of}
 use Rattle.rdm_fixture.proofs.Made.{made, number_range, may_most, all_said, all_at, of_table}
 use Rattle.rdm_fixture.proofs.OneFixture.{one}
+use Rattle.rdm_fixture.proofs.OwnSlots.{printable_mode}
 use Rattle.rdm_fixture.proofs.Printables.{when, printable_at}
 use Rattle.rdm_fixture.proofs.SaidParameters.{sayable}
 
@@ -100,6 +102,8 @@ printable_texts t p h = record {
   choices = all_at _ (λ c. IsTrue (are_printable c.name))
       (of_table IsChoice (λ c. IsTrue (are_printable c.name)) (λ m c said. printable_at m (codes "description") _ said.name))
       (get_member (codes "choice") t) _ h.choices.items;
+  modes = all_at _ (λ m. IsTrue (is_printable_mode m)) (of_table IsMode (λ m. IsTrue (is_printable_mode m)) printable_mode)
+      (get_member (codes "mode") t) _ h.modes.items;
 }
 
 -- ---- the languages

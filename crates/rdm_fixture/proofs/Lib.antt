@@ -6,6 +6,8 @@ pub mod Starts
 pub mod Printables
 pub mod SaidParameters
 pub mod Made
+pub mod OwnSlots
+pub mod BehindUnits
 pub mod Described
 pub mod Equality
 pub mod WrongEntries
@@ -17,6 +19,7 @@ pub mod ChoiceNumbers
 pub mod Said
 pub mod WrittenNames
 pub mod WrittenEntries
+pub mod WrittenModes
 pub mod WrittenUnits
 pub mod WrittenRules
 pub mod WrittenParameters

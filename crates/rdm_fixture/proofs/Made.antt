@@ -198,5 +198,6 @@ made t p h opened held =
         without = h.may_lack;
         locks = record { states = h.states; opened = opened; held = held };
         binding = bound (get_member (codes "binding_uid") t) _ h.mute_reply.binding;
+        modes = h.modes_agree;
       },
     )

@@ -15,6 +15,7 @@ use Rattle.rdm_profile.specs.declared.profile.fields.Width.{Width}
 use Rattle.rdm_profile.specs.declared.profile.Personality.{Personality}
 use Rattle.rdm_profile.specs.declared.profile.locks.Lock.{Lock}
 use Rattle.rdm_profile.specs.declared.profile.mute_reply.MuteReply.{MuteReply}
+use Rattle.rdm_profile.specs.declared.profile.modes.Mode.{Mode}
 use Rattle.rdm_profile.specs.declared.profile.particulars.Particular.{Particular}
 use Rattle.rdm_profile.specs.declared.profile.Profile.{Profile}
 use Rattle.rdm_profile.specs.declared.profile.workers.Worker.{Worker}
@@ -42,6 +43,7 @@ use Rattle.rdm_fixture_keys.specs.Values.{flag, label_id, number, language}
 use Rattle.rdm_fixture.specs.Parameters.{IsField, SaysParameter, IsParameter, greatest_said, low_in, high_in, start, is_setting}
 use Rattle.rdm_fixture.specs.Notices.{IsNotice}
 use Rattle.rdm_fixture.specs.OverTime.{IsPoint, SaysCourse, IsCourse}
+use Rattle.rdm_fixture.specs.OwnSlots.{IsMode, AreModes}
 use Rattle.rdm_fixture.specs.Starting.{SaysPresent, IsStarting}
 use Rattle.rdm_fixture.specs.Outcomes.{IsOutcome}
 use Rattle.rdm_fixture_keys.specs.Entries.{IsPersonality, IsSlot, IsSensor, IsSelfTest, IsStatus, IsChoice}
@@ -129,6 +131,20 @@ one_slot t x y p q =
     let label : must (label_id y.kind) (get_member (codes "label_id") t) ≡ Some x.label =
     subst (λ k. must (label_id k) (get_member (codes "label_id") t) ≡ Some x.label) kind p.label in
     same_slot kind (one label q.label) (one p.value q.value) (one p.name q.name)
+
+abbrev mode_of : Personality → ℕ → List Slot → Mode
+mode_of a0 a1 a2 = record { personality = a0; slots_of = a1; slots = a2 }
+
+same_mode : {a0 b0 : Personality} {a1 b1 : ℕ} {a2 b2 : List Slot} → a0 ≡ b0 → a1 ≡ b1 → a2 ≡ b2 → mode_of a0 a1 a2 ≡ mode_of b0 b1 b2
+same_mode e0 e1 e2 = rw (e0, e1, e2) refl
+
+one_mode : SaysOne IsMode
+one_mode t x y p q =
+    same_mode (same_personality (one p.footprint q.footprint) (one p.name q.name)) (one p.slots_of q.slots_of)
+    (one_list t _ IsSlot 0 46 _ _ one_slot p.slots q.slots)
+
+pub one_modes : (t : Members) (xs ys : List Mode) → AreModes t xs → AreModes t ys → xs ≡ ys
+one_modes t xs ys p q = one_list t _ IsMode 0 247 _ _ one_mode p q
 
 abbrev pub sensor_of : ℕ → ℕ → ℕ → ℤ → ℤ → ℤ → ℤ → ℕ → List ℕ → Bool → SensorDef
 sensor_of a0 a1 a2 a3 a4 a5 a6 a7 a8 a9 = record { kind = a0; unit = a1; prefix = a2; low = a3; high = a4; normal_low = a5; normal_high = a6; support = a7; name = a8; at_once = a9 }
@@ -327,15 +343,15 @@ same_mute_reply e0 e1 e2 = rw (e0, e1, e2) refl
 pub one_mute_reply : SaysOne IsMuteReply
 one_mute_reply t x y p q = same_mute_reply (one p.proxied q.proxied) (one p.boot_loader q.boot_loader) (one p.binding q.binding)
 
-abbrev particular_of : List ParameterDef → List ChoiceName → List Lock → ArrayVec ℕ 36 (Unit {0}) → ℕ → Estimates → MuteReply → Bool → Particular
-particular_of a0 a1 a2 a3 a4 a5 a6 a7 =
-    record { own = a0; choices = a1; locks = a2; without = a3; more_slots = a4; estimates = a5; mute_reply = a6; newest_only = a7 }
+abbrev particular_of : List ParameterDef → List ChoiceName → List Lock → ArrayVec ℕ 36 (Unit {0}) → ℕ → Estimates → MuteReply → Bool → List Mode → Particular
+particular_of a0 a1 a2 a3 a4 a5 a6 a7 a8 =
+    record { own = a0; choices = a1; locks = a2; without = a3; more_slots = a4; estimates = a5; mute_reply = a6; newest_only = a7; modes = a8 }
 
 same_particular : {a0 b0 : List ParameterDef} {a1 b1 : List ChoiceName} {a2 b2 : List Lock} {a3 b3 : ArrayVec ℕ 36 (Unit {0})} {a4 b4 : ℕ} {a5 b5 : Estimates}
-    {a6 b6 : MuteReply} {a7 b7 : Bool}
-    → a0 ≡ b0 → a1 ≡ b1 → a2 ≡ b2 → a3 ≡ b3 → a4 ≡ b4 → a5 ≡ b5 → a6 ≡ b6 → a7 ≡ b7
-    → particular_of a0 a1 a2 a3 a4 a5 a6 a7 ≡ particular_of b0 b1 b2 b3 b4 b5 b6 b7
-same_particular e0 e1 e2 e3 e4 e5 e6 e7 = rw (e0, e1, e2, e3, e4, e5, e6, e7) refl
+    {a6 b6 : MuteReply} {a7 b7 : Bool} {a8 b8 : List Mode}
+    → a0 ≡ b0 → a1 ≡ b1 → a2 ≡ b2 → a3 ≡ b3 → a4 ≡ b4 → a5 ≡ b5 → a6 ≡ b6 → a7 ≡ b7 → a8 ≡ b8
+    → particular_of a0 a1 a2 a3 a4 a5 a6 a7 a8 ≡ particular_of b0 b1 b2 b3 b4 b5 b6 b7 b8
+same_particular e0 e1 e2 e3 e4 e5 e6 e7 e8 = rw (e0, e1, e2, e3, e4, e5, e6, e7, e8) refl
 
 abbrev pub profile_of : DeviceUnit → DeviceUnit → ℕ → ℕ → List ℕ → ArrayVec ℕ 8 (Unit {0}) → ArrayVec Slot 46 (Unit {0}) → ArrayVec SensorDef 8 (Unit {0}) → ArrayVec SelfTest 8 (Unit {0}) → ArrayVec StatusText 8 (Unit {0}) → ℕ → Workers → Particular → Profile
 profile_of a0 a1 a2 a3 a4 a5 a6 a7 a8 a9 a10 a11 a12 = record { root = a0; sub = a1; subs = a2; boot = a3; boot_text = a4; languages = a5; slots = a6; sensors = a7; tests = a8; status_texts = a9; presets = a10; workers = a11; particulars = a12 }
@@ -357,6 +373,7 @@ one_particular t x y p q =
     (one_times _ _ _ p.estimates q.estimates)
     (one_mute_reply t _ _ p.mute_reply q.mute_reply)
     (one p.newest_only q.newest_only)
+    (one_modes t _ _ p.modes q.modes)
 
 pub one_profile : SaysOne IsProfile
 one_profile t x y p q =

@@ -1,10 +1,11 @@
 -- What is written of a whole fixture, and of its UID and its languages.
 use Rattle.std.proofs.Common.{◌≡◌, ℕ, ◌+◌, ◌≤◌, ◌<◌, min, pos, false, List, [], ◌∷◌, ◌++◌, length, map, get_or, take, Option, Some, None, IsTrue, Bool, true, not, option_map, option_and_then, refl, sym, ap, ◌∙◌, arith, codes}
-use Rattle.std.proofs.lemmas.List.{take_more}
+use Rattle.std.proofs.lemmas.List.{take_more, length-map}
 use Rattle.rdm_frame.specs.declared.uid.Uid.{Uid}
 use Rattle.rdm_frame.specs.Addressing.{is_broadcast}
 use Rattle.rdm_frame.specs.FrameText.{IsUid}
 use Rattle.rdm_frame.specs.UidText.{uid_text}
+use Rattle.rdm_profile.specs.Modes.{shape_of}
 use Rattle.rdm_profile.specs.MuteReply.{can_bind}
 use Rattle.rdm_frame.proofs.NumberSpellings.{uid_spelled, uid_written}
 use Rattle.toml.specs.Data.{Data, string, integer, table, Members, get_member}
@@ -20,6 +21,7 @@ use Rattle.rdm_fixture.specs.Outcomes.{IsOutcome}
 use Rattle.rdm_fixture.specs.Parameters.{IsParameter}
 use Rattle.rdm_fixture.specs.Notices.{IsNotice}
 use Rattle.rdm_fixture.specs.OverTime.{IsCourse}
+use Rattle.rdm_fixture.specs.OwnSlots.{IsMode}
 use Rattle.rdm_fixture.specs.Starting.{IsCounted, SaysPresent}
 use Rattle.rdm_fixture_keys.specs.Values.{flag, number, text, uid, own_uid, only_uid, language}
 use Rattle.rdm_fixture.specs.Writing.{with_field, with_mute_reply, text_field, flag_field, uid_field, locking_of, IsPlain}
@@ -64,10 +66,10 @@ deeper n m d less is = record { shallow = omega (arith, less, is.shallow); dates
 pub deeper_some : (n m : ℕ) (o : Option Data) → n ≤ m → ((d : Data) → o ≡ Some d → IsPlain n d) → (d : Data) → o ≡ Some d → IsPlain m d
 deeper_some n m o less is d e = deeper n m d less (is d e)
 
-module _ (f : Fixture) (base : Members) (uid_data languages : Data) (slots sensors tests statuses lacks owns names locks outcomes subs times chosen messages : Option Data) where
+module _ (f : Fixture) (base : Members) (uid_data languages : Data) (slots sensors tests statuses lacks owns names locks outcomes subs times chosen messages own_slots : Option Data) where
   abbrev pub fixture_fields : List Field
   fixture_fields =
-      (codes "status_message", messages) ∷ (codes "workers", chosen) ∷ (codes "estimates", times) ∷ (codes "sub_devices", subs) ∷ (codes "outcome", outcomes) ∷ (codes "lock", locks) ∷ (codes "choice", names) ∷ (codes "parameter", owns) ∷ (codes "without", lacks)
+      (codes "mode", own_slots) ∷ (codes "status_message", messages) ∷ (codes "workers", chosen) ∷ (codes "estimates", times) ∷ (codes "sub_devices", subs) ∷ (codes "outcome", outcomes) ∷ (codes "lock", locks) ∷ (codes "choice", names) ∷ (codes "parameter", owns) ∷ (codes "without", lacks)
       ∷ (codes "status", statuses) ∷ (codes "self_test", tests) ∷ (codes "sensor", sensors) ∷ (codes "slot", slots)
       ∷ (codes "more_slots", Some (integer (pos f.profile.particulars.more_slots))) ∷ (codes "presets", Some (integer (pos f.profile.presets)))
       ∷ (codes "languages", Some languages) ∷ (codes "boot_software_version_label", text_field f.profile.boot_text)
@@ -77,7 +79,7 @@ module _ (f : Fixture) (base : Members) (uid_data languages : Data) (slots senso
       ∷ (codes "binding_uid", uid_field f.profile.particulars.mute_reply.binding) ∷ []
 
   -- each table has one field more than the one before
-  pub fixture_members : (muted newest t1 t2 t3 t4 t5 t6 t7 t8 t9 t10 t11 t12 t13 t14 t15 t16 t17 t18 t19 : Members)
+  pub fixture_members : (muted newest t1 t2 t3 t4 t5 t6 t7 t8 t9 t10 t11 t12 t13 t14 t15 t16 t17 t18 t19 t20 : Members)
       → muted ≡ with_mute_reply f.profile.particulars.mute_reply base
       → newest ≡ with_field (codes "newest_only") (flag_field f.profile.particulars.newest_only) muted
       → t1 ≡ with_field (codes "uid") (Some uid_data) newest
@@ -94,8 +96,9 @@ module _ (f : Fixture) (base : Members) (uid_data languages : Data) (slots senso
       → t15 ≡ with_field (codes "outcome") outcomes t14 → t16 ≡ with_field (codes "sub_devices") subs t15
       → t17 ≡ with_field (codes "estimates") times t16 → t18 ≡ with_field (codes "workers") chosen t17
       → t19 ≡ with_field (codes "status_message") messages t18
-      → t19 ≡ members_on base fixture_fields
-  fixture_members muted newest t1 t2 t3 t4 t5 t6 t7 t8 t9 t10 t11 t12 t13 t14 t15 t16 t17 t18 t19 is_muted is_newest e1 e2 e3 e4 e5 e6 e7 e8 e9 e10 e11 e12 e13 e14 e15 e16 e17 e18 e19 =
+      → t20 ≡ with_field (codes "mode") own_slots t19
+      → t20 ≡ members_on base fixture_fields
+  fixture_members muted newest t1 t2 t3 t4 t5 t6 t7 t8 t9 t10 t11 t12 t13 t14 t15 t16 t17 t18 t19 t20 is_muted is_newest e1 e2 e3 e4 e5 e6 e7 e8 e9 e10 e11 e12 e13 e14 e15 e16 e17 e18 e19 e20 =
       let at0 = is_newest ∙ ap (with_field (codes "newest_only") (flag_field f.profile.particulars.newest_only)) is_muted in
       let at1 = e1 ∙ ap (with_field (codes "uid") (Some uid_data)) at0 in
       let at2 = e2 ∙ ap (with_field (codes "boot_software_version_id") (Some (integer (pos f.profile.boot)))) at1 in
@@ -115,7 +118,8 @@ module _ (f : Fixture) (base : Members) (uid_data languages : Data) (slots senso
       let at16 = e16 ∙ ap (with_field (codes "sub_devices") subs) at15 in
       let at17 = e17 ∙ ap (with_field (codes "estimates") times) at16 in
       let at18 = e18 ∙ ap (with_field (codes "workers") chosen) at17 in
-      e19 ∙ ap (with_field (codes "status_message") messages) at18
+      let at19 = e19 ∙ ap (with_field (codes "status_message") messages) at18 in
+      e20 ∙ ap (with_field (codes "mode") own_slots) at19
 
   or_absent : (o x : Option Data) → x ≡ None → or_else o x ≡ o
   or_absent None x none = none
@@ -143,8 +147,9 @@ module _ (f : Fixture) (base : Members) (uid_data languages : Data) (slots senso
       → ((n : ℕ) (t : Members) → IsUnit n t f.profile.root → SubDevices n t subs f.profile.subs f.profile.sub)
       → EstimatesAt times f.profile.particulars.estimates → WorkersAt chosen f.profile.workers
       → ListAt (OfTable IsNotice) messages f.start.notices.items → length f.start.notices.items ≤ 16
+      → ListAt (OfTable IsMode) own_slots f.profile.particulars.modes
       → IsFixture (members_on base fixture_fields) f
-  fixture_says can only counted root bound own boot boot_text langs slot slot_fit sensor sensor_fit present course test test_fit status status_fit lacked lacked_fit added added_fit named named_fit lock lock_fit outcome outcome_fit sub time worker notice notice_fit =
+  fixture_says can only counted root bound own boot boot_text langs slot slot_fit sensor sensor_fit present course test test_fit status status_fit lacked lacked_fit added added_fit named named_fit lock lock_fit outcome outcome_fit sub time worker notice notice_fit mode =
       let fs = fixture_fields in
       let t = members_on base fs in
       let at_slot : get_member (codes "slot") t ≡ slots = found (codes "slot") slots refl (absent root_keys (codes "slot") base only refl) in
@@ -162,7 +167,7 @@ module _ (f : Fixture) (base : Members) (uid_data languages : Data) (slots senso
         keys = only_on fixture_keys base fs
             (wider (codes "uid" ∷ codes "boot_software_version_id" ∷ codes "boot_software_version_label" ∷ codes "languages" ∷ codes "presets"
             ∷ codes "more_slots" ∷ codes "binding_uid" ∷ codes "boot_loader" ∷ codes "proxied_device" ∷ codes "newest_only"
-            ∷ codes "slot" ∷ codes "sensor" ∷ codes "self_test" ∷ codes "status" ∷ codes "without" ∷ codes "parameter" ∷ codes "choice" ∷ codes "lock" ∷ codes "outcome"
+            ∷ codes "slot" ∷ codes "mode" ∷ codes "sensor" ∷ codes "self_test" ∷ codes "status" ∷ codes "without" ∷ codes "parameter" ∷ codes "choice" ∷ codes "lock" ∷ codes "outcome"
             ∷ codes "sub_devices" ∷ codes "estimates" ∷ codes "workers" ∷ codes "status_message" ∷ []) root_keys base only) refl;
         said = record {
           own = ap (must uid) (get_on base (codes "uid") fs) ∙ own;
@@ -210,6 +215,12 @@ module _ (f : Fixture) (base : Members) (uid_data languages : Data) (slots senso
             };
             newest_only = ap (may false flag) (found (codes "newest_only") (flag_field f.profile.particulars.newest_only) refl
                 (absent root_keys (codes "newest_only") base only refl)) ∙ flag_says _;
+            modes = record {
+              items = rw (found (codes "mode") own_slots refl (absent root_keys (codes "mode") base only refl)) mode;
+              enough = omega arith;
+              fit = let same = length-map f.profile.particulars.modes shape_of in let few = good.modes.count in omega (arith, same, few);
+            };
+            modes_agree = good.modes;
           };
           outcomes = record { items = rw (found (codes "outcome") outcomes refl (absent root_keys (codes "outcome") base only refl)) outcome; enough = omega arith; fit = outcome_fit };
           start = record {
@@ -240,11 +251,11 @@ module _ (f : Fixture) (base : Members) (uid_data languages : Data) (slots senso
       → ((d : Data) → statuses ≡ Some d → IsPlain 4 d) → ((d : Data) → lacks ≡ Some d → IsPlain 4 d) → ((d : Data) → owns ≡ Some d → IsPlain 4 d)
       → ((d : Data) → names ≡ Some d → IsPlain 4 d) → ((d : Data) → locks ≡ Some d → IsPlain 4 d)
       → ((d : Data) → outcomes ≡ Some d → IsPlain 4 d) → ((d : Data) → subs ≡ Some d → IsPlain 4 d) → ((d : Data) → times ≡ Some d → IsPlain 4 d)
-      → ((d : Data) → chosen ≡ Some d → IsPlain 4 d) → ((d : Data) → messages ≡ Some d → IsPlain 4 d)
+      → ((d : Data) → chosen ≡ Some d → IsPlain 4 d) → ((d : Data) → messages ≡ Some d → IsPlain 4 d) → ((d : Data) → own_slots ≡ Some d → IsPlain 4 d)
       → IsPlain 5 (table (members_on base fixture_fields))
-  fixture_plain rest is_uid is_languages is_slots is_sensors is_tests is_statuses is_lacks is_own is_named is_locks is_outcomes is_subs is_times is_chosen is_messages =
+  fixture_plain rest is_uid is_languages is_slots is_sensors is_tests is_statuses is_lacks is_own is_named is_locks is_outcomes is_subs is_times is_chosen is_messages is_modes =
       plain_on 4 base fixture_fields rest
-      (option_plain 4 (codes "status_message") messages _ is_messages (option_plain 4 (codes "workers") chosen _ is_chosen (option_plain 4 (codes "estimates") times _ is_times (option_plain 4 (codes "sub_devices") subs _ is_subs (option_plain 4 (codes "outcome") outcomes _ is_outcomes
+      (option_plain 4 (codes "mode") own_slots _ is_modes (option_plain 4 (codes "status_message") messages _ is_messages (option_plain 4 (codes "workers") chosen _ is_chosen (option_plain 4 (codes "estimates") times _ is_times (option_plain 4 (codes "sub_devices") subs _ is_subs (option_plain 4 (codes "outcome") outcomes _ is_outcomes
       (option_plain 4 (codes "lock") locks _ is_locks (option_plain 4 (codes "choice") names _ is_named (option_plain 4 (codes "parameter") owns _ is_own (option_plain 4 (codes "without") lacks _ is_lacks
       (option_plain 4 (codes "status") statuses _ is_statuses (option_plain 4 (codes "self_test") tests _ is_tests
       (option_plain 4 (codes "sensor") sensors _ is_sensors (option_plain 4 (codes "slot") slots _ is_slots (
@@ -263,4 +274,4 @@ module _ (f : Fixture) (base : Members) (uid_data languages : Data) (slots senso
             ),
           ),
         ),
-      ))))))))))))))
+      )))))))))))))))

@@ -4,6 +4,7 @@ use Rattle.std.specs.List.{list_all}
 use Rattle.rdm_frame.specs.Addressing.{is_broadcast}
 use Rattle.rdm_frame.specs.declared.status.Severity.{Severity}
 use Rattle.rdm_frame.specs.declared.status.Severity.TheVariants.{Advisory, Warning, Error}
+use Rattle.rdm_profile.specs.declared.profile.modes.Mode.{Mode}
 use Rattle.rdm_profile.specs.declared.profile.Profile.{Profile}
 use Rattle.rdm_profile.specs.declared.profile.Unit.{Unit as DeviceUnit}
 use Rattle.rdm_profile.specs.declared.profile.own.ParameterDef.{ParameterDef}
@@ -36,6 +37,10 @@ pub record HasPrintableUnit (u : DeviceUnit) : Type 0 where
   pub software : IsTrue (are_printable u.software_text)
   pub personalities : All (λ m. IsTrue (are_printable m.name)) u.personalities.items
 
+-- those of a personality that has slots of its own: what it is called, and what they are
+abbrev pub is_printable_mode : Mode → Bool
+is_printable_mode m = are_printable m.personality.name && list_all (λ s. are_printable s.name) m.slots
+
 -- every text of the profile
 pub record HasPrintableTexts (p : Profile) : Type 0 where
   pub boot : IsTrue (are_printable p.boot_text)
@@ -46,6 +51,7 @@ pub record HasPrintableTexts (p : Profile) : Type 0 where
   pub tests : All (λ t. IsTrue (are_printable t.name)) p.tests.items
   pub statuses : All (λ s. IsTrue (are_printable s.text)) p.status_texts.items
   pub choices : All (λ c. IsTrue (are_printable c.name)) p.particulars.choices
+  pub modes : All (λ m. IsTrue (is_printable_mode m)) p.particulars.modes
 
 -- ---- parameters that the profile adds
 

@@ -15,6 +15,7 @@ particular_from a = record {
   estimates = a.estimates;
   mute_reply = a.mute_reply;
   newest_only = a.newest_only;
+  modes = a.modes;
 }
 
 -- the same set apart by this

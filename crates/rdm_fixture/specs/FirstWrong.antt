@@ -1,19 +1,20 @@
 -- What the tables of a fixture are looked at for, part by part, in the order in which it is done.
-use Rattle.std.specs.Prelude.{◌≡◌, ◌≢◌, ℕ, ◌+◌, ◌<◌, ◌≤◌, Bool, ℤ, pos, neg_ℤ, true, false, ◌⊎◌, IsTrue, List, [], ◌∷◌, ◌++◌, length, slice_index_or, Option, Some, None, IsSome, AllPairs, codes}
+use Rattle.std.specs.Prelude.{◌≡◌, ◌≢◌, ℕ, ◌+◌, ◌<◌, ◌≤◌, Bool, ℤ, pos, neg_ℤ, true, false, ◌⊎◌, IsTrue, List, [], ◌∷◌, ◌++◌, length, map, slice_index_or, Option, Some, None, IsSome, AllPairs, codes}
 use Rattle.toml.specs.Data.{Data, table, array, Members, get_member}
 use Rattle.rdm_profile.specs.declared.profile.estimates.Estimates.{Estimates}
-use Rattle.rdm_profile.specs.declared.profile.mute_reply.MuteReply.{MuteReply}
 use Rattle.rdm_profile.specs.declared.profile.Unit.{Unit as DeviceUnit}
 use Rattle.rdm_profile.specs.declared.profile.workers.Workers.{Workers}
 use Rattle.rdm_profile.specs.declared.profile.choices.ChoiceName.{ChoiceName}
 use Rattle.rdm_profile.specs.declared.profile.fields.Field.{Field}
 use Rattle.rdm_profile.specs.declared.profile.locks.Lock.{Lock}
+use Rattle.rdm_profile.specs.declared.profile.modes.Mode.{Mode}
 use Rattle.rdm_profile.specs.declared.profile.own.ParameterDef.{ParameterDef}
 use Rattle.rdm_profile.specs.declared.profile.own.Shape.{Shape}
 use Rattle.rdm_profile.specs.declared.profile.own.Shape.TheVariants as shapes
 use Rattle.rdm_profile.specs.LeftOut.{leave_no_need}
 use Rattle.rdm_profile.specs.OwnParameters.{can_start, has_good_fields}
-use Rattle.rdm_profile.specs.Profiles.{AreOptional, Agree, HaveStates}
+use Rattle.rdm_profile.specs.Modes.{shape_of}
+use Rattle.rdm_profile.specs.Profiles.{AreGoodModes, AreOptional, Agree, HaveStates}
 use Rattle.rdm_profile.specs.Standards.{follows}
 use Rattle.rdm_commands.specs.declared.jobs.outcome.Outcome.{Outcome}
 use Rattle.rdm_commands.specs.declared.jobs.outcome.Outcome.TheVariants.{Done, Reading, Failed}
@@ -34,6 +35,7 @@ use Rattle.rdm_fixture.specs.Outcomes.{IsOutcome, task, severity, outcome_in, an
 use Rattle.rdm_fixture_keys.specs.Values.{integer_from, flag, within, number, worker, language, uid, only_uid}
 use Rattle.rdm_fixture.specs.Notices.{IsNotice, notice_parts}
 use Rattle.rdm_fixture.specs.OverTime.{IsCourse, course_parts}
+use Rattle.rdm_fixture.specs.OwnSlots.{AreModes, modes_part}
 use Rattle.rdm_fixture.specs.Parameters.{IsField, SaysParameter, IsParameter, parameter_keys, own_pid, command_class, data_type, slots_of, shape_in, least_of, greatest_of, limit, low_in, high_in, start, can_reset}
 use Rattle.rdm_fixture.specs.Starting.{measured, SaysPresent, IsStarting}
 use Rattle.rdm_fixture.specs.Working.{CanWork, IsIdle}
@@ -341,6 +343,17 @@ unneeded =
     says_one (λ t (pids : List ℕ). AreNamed t pids × (leave_no_need pids ≡ true))
     (λ t f. (pids : List ℕ) × AreNamed t pids × (leave_no_need pids ≡ false) × (f ≡ fault (codes "without") wanted.Unneeded))
 
+-- these are the personalities of the root, and the modes behind them
+abbrev pub AreBehind : Members → DeviceUnit → List Mode → Type 0
+AreBehind t u ms = IsUnit (root_slots t) t u × AreModes t ms
+
+-- each mode has slots of its own, or those of a personality that has
+abbrev pub modes_agree : Part
+modes_agree =
+    says_one (λ t (r : DeviceUnit × List Mode). AreBehind t r.0 r.1 × AreGoodModes (length r.0.personalities.items) (map shape_of r.1))
+    (λ t f. (u : DeviceUnit) × (ms : List Mode) × AreBehind t u ms × (¬ AreGoodModes (length u.personalities.items) (map shape_of ms))
+    × (f ≡ fault (codes "mode") (wanted.Agreement agreements.OwnSlots)))
+
 -- the parameters, the names of choices and the locks, one part after the other
 abbrev pub added_parts : List Part
 added_parts =
@@ -355,7 +368,7 @@ profile_parts =
     ∷ entries (codes "sensor") IsSensor (FirstWrong sensor_parts) 0 8
     ∷ entries (codes "self_test") IsSelfTest (FirstWrong self_test_parts) 0 8 ∷ differing (codes "self_test") (codes "number") IsSelfTest (λ a. a.number)
     ∷ entries (codes "status") IsStatus (FirstWrong status_parts) 0 8 ∷ differing (codes "status") (codes "id") IsStatus (λ a. a.id)
-    ∷ names ∷ optional ∷ unneeded ∷ (added_parts ++ (times ∷ choice ∷ muting ∷ newest ∷ []))
+    ∷ names ∷ optional ∷ unneeded ∷ (added_parts ++ (times ∷ choice ∷ muting ∷ newest ∷ modes_part ∷ modes_agree ∷ []))
 
 -- what it is switched on with
 abbrev pub present_parts : List Part

@@ -10,7 +10,8 @@ use Rattle.rdm_profile.specs.declared.profile.mute_reply.MuteReply.{MuteReply}
 use Rattle.rdm_profile.specs.declared.profile.workers.Worker.TheVariants.{First, Second}
 use Rattle.rdm_profile.specs.declared.profile.workers.Workers.{Workers}
 use Rattle.rdm_profile.specs.Estimates.{usual}
-use Rattle.rdm_profile.specs.Profiles.{MayBeLeftOut, Agree, HaveStates}
+use Rattle.rdm_profile.specs.Modes.{mode_shapes}
+use Rattle.rdm_profile.specs.Profiles.{AreGoodModes, MayBeLeftOut, Agree, HaveStates}
 use Rattle.rdm_profile.specs.Workers.{usual_workers}
 use Rattle.rdm_params.specs.Table.Kinds.{pid_of, kind_named}
 use Rattle.rdm_params.specs.Table.Names.{pid_named}
@@ -20,6 +21,7 @@ use Rattle.rdm_fixture.specs.Outcomes.{IsOutcome}
 use Rattle.rdm_fixture_keys.specs.Entries.{IsPersonality, IsSlot, IsSensor, IsSelfTest, IsStatus, IsChoice}
 use Rattle.rdm_fixture_keys.specs.Values.{flag, named, number, worker, text, language, uid, only_uid}
 use Rattle.rdm_standard_names.specs.declared.kind.NameKind.TheVariants.{Categories}
+use Rattle.rdm_fixture.specs.OwnSlots.{AreModes}
 use Rattle.rdm_fixture.specs.Parameters.{IsParameter}
 use Rattle.rdm_fixture.specs.Starting.{IsStarting, counter_keys}
 use Rattle.rdm_fixture.specs.Working.{CanWork}
@@ -168,12 +170,12 @@ abbrev pub fixture_keys : List (List ℕ)
 fixture_keys =
     codes "uid" ∷ codes "boot_software_version_id" ∷ codes "boot_software_version_label" ∷ codes "languages"
     ∷ codes "presets" ∷ codes "more_slots" ∷ codes "binding_uid" ∷ codes "boot_loader" ∷ codes "proxied_device" ∷ codes "newest_only"
-    ∷ codes "slot" ∷ codes "sensor" ∷ codes "self_test" ∷ codes "status" ∷ codes "without" ∷ codes "parameter" ∷ codes "choice"
-    ∷ codes "lock" ∷ codes "outcome" ∷ codes "sub_devices" ∷ codes "estimates" ∷ codes "workers" ∷ codes "status_message" ∷ root_keys
+    ∷ codes "slot" ∷ codes "mode" ∷ codes "sensor" ∷ codes "self_test" ∷ codes "status" ∷ codes "without" ∷ codes "parameter"
+    ∷ codes "choice" ∷ codes "lock" ∷ codes "outcome" ∷ codes "sub_devices" ∷ codes "estimates" ∷ codes "workers" ∷ codes "status_message" ∷ root_keys
 
 -- What the devices are made with. The parameters that it adds are in the order of their PIDs, and each thing of which one is chosen has a
 -- name. LOCK_STATE has each state that locks something. Those that the fixture lacks are ones that it may lack, and none that another one
--- needs.
+-- needs. Each mode has slots of its own, or those of a personality that has.
 pub record IsProfile (t : Members) (p : Profile) : Type 0 where
   pub root : IsUnit (root_slots t) t p.root
   pub sub : SubDevices (root_slots t) t (get_member (codes "sub_devices") t) p.subs p.sub
@@ -200,6 +202,8 @@ pub record IsProfile (t : Members) (p : Profile) : Type 0 where
   pub workers : WorkersAt (get_member (codes "workers") t) p.workers
   pub mute_reply : IsMuteReply t p.particulars.mute_reply
   pub newest_only : May t (codes "newest_only") false flag p.particulars.newest_only
+  pub modes : AreModes t p.particulars.modes
+  pub modes_agree : AreGoodModes (length p.root.personalities.items) (mode_shapes p)
 
 -- What its keys say.
 pub record SaysFixture (t : Members) (f : Fixture) : Type 0 where

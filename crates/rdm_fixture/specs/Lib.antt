@@ -2,6 +2,7 @@ pub mod Lists
 pub mod Outcomes
 pub mod Parameters
 pub mod Starting
+pub mod OwnSlots
 pub mod Working
 pub mod Format
 pub mod Drafts

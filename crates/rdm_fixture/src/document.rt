@@ -13,16 +13,18 @@ ghost use Rattle.rdm_fixture_keys.specs.Faults.{told};
 ghost use Rattle.rdm_fixture.specs.FirstWrong.{fixture_parts};
 ghost use Rattle.rdm_fixture.specs.Format.{IsFixture};
 ghost use Rattle.rdm_fixture_keys.specs.Keys.{Reads};
+ghost use Rattle.rdm_fixture.specs.OwnSlots.{AreModes, modes_part};
 ghost use Rattle.rdm_fixture_keys.specs.Wrong.{FirstWrong};
 
 use crate::line::with_line;
 use crate::lists::list;
+use crate::modes::modes;
 use crate::profile::{Added, Apart, profile};
 use crate::starting::values_at_start;
 use crate::unit::and_unit_keys;
 use crate::working::said_in_vain;
 use crate::{Fixture, Refusal};
-use rdm_device::{ChoiceNames, Locks, OwnParameters, Particular, Particulars, Profile};
+use rdm_device::{ChoiceNames, Locks, Modes, OwnParameters, Particular, Particulars, Profile};
 use rdm_fixture_keys::keys::{only, own_uid};
 use std::alloc::{AllocError, Global};
 use std::fmt;
@@ -59,7 +61,11 @@ impl Fixture {
             Ok(table) => table,
             Err(error) => return Err(not_read(error)),
         };
-        match fixture_of(&table) {
+        // Memory for the modes is taken first: without it nothing is said of the text.
+        let Ok(modes) = modes(alloc, &table) else {
+            return Err(FixtureError::OutOfMemory);
+        };
+        match fixture_of(&table, modes) {
             Ok((fixture, apart)) => match set_apart(alloc, fixture, apart) {
                 Ok(fixture) => Ok(fixture),
                 Err(_) => Err(FixtureError::OutOfMemory),
@@ -114,6 +120,7 @@ fn particulars_of(alloc: Global, apart: Apart) -> Result<Particulars, AllocError
         estimates,
         mute_reply,
         newest_only,
+        modes,
     } = apart;
     let Added {
         own,
@@ -129,12 +136,16 @@ fn particulars_of(alloc: Global, apart: Apart) -> Result<Particulars, AllocError
         estimates,
         mute_reply,
         newest_only,
+        modes,
     };
     Particulars::of(alloc, particular)
 }
 
-/// The fixture of a table, with no key besides those of the format, but for what sets its profile apart, which stands beside it.
-fn fixture_of(table: &Table) -> Result<(Fixture, Apart), Refusal>
+/// The fixture of a table, with no key besides those of the format, but for what sets its profile apart, which stands beside it. Its modes
+/// were read before, or refused.
+fn fixture_of(table: &Table, modes: Result<Modes, Refusal>) -> Result<(Fixture, Apart), Refusal>
+    requires modes { Reads AreModes (table_view table.now) modes }
+    requires refusal { IfErr modes (λ e. modes_part.Wrong (table_view table.now) (told e)) }
     ensures read { Reads (λ t r. IsFixture t (fixture_with r.0 r.1)) (table_view table.now) result }
     ensures made { IfOk result (λ r. CanBeMade (profile_with r.0.profile r.1)) }
     ensures describable { IfOk result (λ r. CanBeDescribed (fixture_with r.0 r.1)) }
@@ -154,6 +165,7 @@ fn fixture_of(table: &Table) -> Result<(Fixture, Apart), Refusal>
             "proxied_device",
             "newest_only",
             "slot",
+            "mode",
             "sensor",
             "self_test",
             "status",
@@ -173,7 +185,7 @@ fn fixture_of(table: &Table) -> Result<(Fixture, Apart), Refusal>
         ),
     )?;
     let uid = own_uid(table, "uid")?;
-    let (profile, apart) = profile(table)?;
+    let (profile, apart) = profile(table, modes)?;
     let outcomes = list(table, "outcome", 0, 0)?;
     let start = values_at_start(table)?;
     let fixture = Fixture {

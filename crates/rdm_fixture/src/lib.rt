@@ -13,6 +13,7 @@ mod fixture;
 mod laws;
 mod line;
 mod lists;
+mod modes;
 mod muting;
 mod notices;
 mod outcomes;

@@ -11,6 +11,7 @@ ghost use Rattle.rdm_fixture_keys.specs.Entries.{IsSlot, IsSelfTest, IsStatus, s
 ghost use Rattle.rdm_fixture.specs.Format.{IsProfile, LanguagesAt, slot_count};
 ghost use Rattle.rdm_fixture_keys.specs.Keys.{Reads, may};
 ghost use Rattle.rdm_fixture.specs.Lists.{OfTable, EachIs, Lists, entries};
+ghost use Rattle.rdm_fixture.specs.OwnSlots.{AreModes, modes_part};
 ghost use Rattle.rdm_fixture_keys.specs.Values as says;
 ghost use Rattle.rdm_fixture_keys.specs.Wrong.{FirstWrong, free_number};
 ghost use Rattle.rdm_fixture_keys.specs.declared.refusal.Wanted.TheVariants as wanted;
@@ -20,13 +21,14 @@ mod locks;
 
 use crate::estimates::estimates;
 use crate::lists::list;
+use crate::modes::behind;
 use crate::muting::mute_reply;
 use crate::unit::{sub_devices, unit};
 use crate::workers::workers;
 pub(crate) use added::Added;
 use added::{additions, without};
 use arrayvec::ArrayVec;
-use rdm_device::{Estimates, MuteReply, Particulars, Profile, SelfTest, Slot, StatusText};
+use rdm_device::{Estimates, Modes, MuteReply, Particulars, Profile, SelfTest, Slot, StatusText};
 use rdm_fixture_keys::keys::{find, flag_or, number_or, text_or_none};
 use rdm_fixture_keys::{Refusal, Wanted};
 use toml::value::Array;
@@ -41,10 +43,17 @@ pub(crate) struct Apart {
     pub(crate) estimates: Estimates,
     pub(crate) mute_reply: MuteReply,
     pub(crate) newest_only: bool,
+    pub(crate) modes: Modes,
 }
 
-/// The profile of a table, of which only the keys of a profile are looked at. What sets it apart, and takes memory, stands beside it.
-pub(crate) fn profile(table: &Table) -> Result<(Profile, Apart), Refusal>
+/// The profile of a table, of which only the keys of a profile are looked at. What sets it apart, and takes memory, stands beside it. Its
+/// modes were read before, or refused.
+pub(crate) fn profile(
+    table: &Table,
+    modes: Result<Modes, Refusal>,
+) -> Result<(Profile, Apart), Refusal>
+    requires modes { Reads AreModes (table_view table.now) modes }
+    requires refusal { IfErr modes (λ e. modes_part.Wrong (table_view table.now) (told e)) }
     ensures read { Reads (λ t r. IsProfile t (profile_with r.0 r.1)) (table_view table.now) result }
     ensures wrong { IfErr result (λ e. FirstWrong parts.profile_parts (table_view table.now) (told e)) }
 {
@@ -66,6 +75,7 @@ pub(crate) fn profile(table: &Table) -> Result<(Profile, Apart), Refusal>
     let workers = workers(table)?;
     let mute_reply = mute_reply(table)?;
     let newest_only = flag_or(table, "newest_only", false)?;
+    let modes = behind(root.personalities.len(), modes)?;
     let profile = Profile {
         root,
         sub,
@@ -88,6 +98,7 @@ pub(crate) fn profile(table: &Table) -> Result<(Profile, Apart), Refusal>
         estimates,
         mute_reply,
         newest_only,
+        modes,
     };
     Ok((profile, apart))
 }

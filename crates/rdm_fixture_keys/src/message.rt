@@ -186,6 +186,9 @@ fn course_fault(agreement: Agreement) -> &'static str {
         Agreement::AtOnce => {
             "needs `answered_at_once = true`: jobs measure any other sensor ([[outcome]] has their readings)"
         }
+        Agreement::OwnSlots => {
+            "must be a list of personalities that each have slots of their own, or name in `slots_of` a personality that has"
+        }
         _ => "omits a parameter for which the file has a starting value",
     }
 }

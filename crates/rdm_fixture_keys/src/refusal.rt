@@ -112,6 +112,8 @@ pub enum Agreement {
     Rounds,
     /// With the sensor: points only where it is answered at once.
     AtOnce,
+    /// With the personalities: each has slots of its own, or those of one that has its own (section 10.6.4).
+    OwnSlots,
 }
 
 /// An entry of a list.

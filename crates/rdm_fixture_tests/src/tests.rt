@@ -8,6 +8,7 @@ mod changed;
 mod estimates;
 mod lines;
 mod locks;
+mod modes;
 mod muting;
 mod outcomes;
 mod parameters;
@@ -20,7 +21,7 @@ mod workers;
 
 use rdm_courses::{Course, Notice, Point};
 use rdm_device::{
-    ChoiceName, Estimates, Field, Lock, ParameterDef, Particulars, SensorDef, Workers,
+    ChoiceName, Estimates, Field, Lock, Mode, ParameterDef, Particulars, SensorDef, Slot, Workers,
 };
 use rdm_fixture::{Fixture, Starting, shown_at_start};
 use std::alloc::{AllocError, Global};
@@ -53,6 +54,8 @@ enum Part {
     Choices,
     /// The counters that it starts with, and what each sensor has measured.
     Start,
+    /// The personalities that have slots of their own, and their slots.
+    Modes,
     /// What is placed for each sensor.
     Sensors,
     /// What each sensor shows over time.
@@ -153,6 +156,7 @@ fn part_of(alloc: Global, part: Part, fixture: &Fixture) -> Result<String, Alloc
         Part::Fields => data_text(alloc, profile.particulars.own()),
         Part::Choices => choices_text(alloc, profile.particulars.choices()),
         Part::Start => start_text(alloc, fixture),
+        Part::Modes => modes_text(alloc, profile.particulars.modes()),
         Part::Sensors => sensors_text(alloc, profile.sensors.as_slice()),
         Part::Courses => courses_text(alloc, fixture.start.courses.as_slice()),
         Part::Notices => notices_text(alloc, fixture.start.notices.as_slice()),
@@ -301,6 +305,32 @@ fn choices_text(alloc: Global, choices: &[ChoiceName]) -> Result<String, AllocEr
         put_line(&mut lines, &line)?;
     }
     Ok(lines)
+}
+
+fn modes_text(alloc: Global, modes: &[Mode]) -> Result<String, AllocError> {
+    let mut lines = String::new(alloc);
+    for mode in modes {
+        let name = str::from_utf8(mode.personality.name.as_slice()).unwrap_or("no text");
+        let line = format!(in alloc;
+            "{} slots, those of {}, \"{name}\"",
+            mode.personality.footprint, mode.slots_of
+        )?;
+        put_line(&mut lines, &line)?;
+        put_slots(alloc, &mut lines, mode.slots.as_slice())?;
+    }
+    Ok(lines)
+}
+
+fn put_slots(alloc: Global, lines: &mut String, slots: &[Slot]) -> Result<(), AllocError> {
+    for slot in slots {
+        let name = str::from_utf8(slot.name.as_slice()).unwrap_or("no text");
+        let line = format!(in alloc;
+            "slot {:02X} {:04X} {}, \"{name}\"",
+            slot.kind, slot.label, slot.value
+        )?;
+        put_line(lines, &line)?;
+    }
+    Ok(())
 }
 
 /// What is placed where sensor 7 has measured -2.

@@ -31,9 +31,9 @@ pub use rdm_commands::{
     estimate_of, fits, fitting_worker, worker_at, worker_of,
 };
 pub use rdm_device::{
-    ChoiceName, ChoiceNames, Estimates, Field, Lock, Locks, MuteReply, OwnParameters, ParameterDef,
-    Particular, Particulars, Personality, Profile, Rights, SelfTest, SensorDef, Shape, Slot,
-    StatusText, Unit, Value, Width, Worker, Workers, write_value,
+    ChoiceName, ChoiceNames, Estimates, Field, Lock, Locks, Mode, ModeShape, Modes, MuteReply,
+    OwnParameters, ParameterDef, Particular, Particulars, Personality, Profile, Rights, SelfTest,
+    SensorDef, Shape, Slot, SlotList, StatusText, Unit, Value, Width, Worker, Workers, write_value,
 };
 pub use rdm_frame::{
     Entry, Message, Nack, Severity, entries_are_equal_by_value, messages_are_equal_by_value,

@@ -15,6 +15,7 @@ mod choices;
 mod devices;
 mod fitting;
 mod locks;
+mod modes;
 mod orders;
 mod panel;
 mod placing;

@@ -9,13 +9,15 @@ use Rattle.rdm_profile.specs.declared.profile.StatusText.{StatusText}
 use Rattle.rdm_profile.specs.Demo.{demo, demo_root, demo_sub, demo_slots, demo_tests, demo_statuses}
 use Rattle.rdm_profile.specs.declared.profile.choices.ChoiceName.{ChoiceName}
 use Rattle.rdm_profile.specs.declared.profile.locks.Lock.{Lock}
+use Rattle.rdm_profile.specs.declared.profile.modes.ModeShape.{ModeShape}
 use Rattle.rdm_profile.specs.declared.profile.own.ParameterDef.{ParameterDef}
 use Rattle.rdm_profile.specs.LeftOut.{is_optional}
 use Rattle.rdm_profile.specs.Locks.{has_state, can_open, can_hold}
 use Rattle.rdm_profile.specs.OwnParameters.{is_addable, has_limits, can_start, has_good_fields}
 use Rattle.rdm_profile.specs.Choices.{agrees, is_needed, comes_before}
 use Rattle.rdm_profile.specs.Standards.{follows}
-use Rattle.rdm_profile.specs.Profiles.{CanBeMade, AreGoodParameters, AreGoodLocks, MayBeLeftOut, root_slots}
+use Rattle.rdm_profile.specs.Modes.{has_slots}
+use Rattle.rdm_profile.specs.Profiles.{CanBeMade, AreGoodParameters, AreGoodLocks, AreGoodModes, MayBeLeftOut, root_slots}
 
 none_differ : {X : Type 0} (R : X → X → Type 0) → AllPairs R []
 none_differ R i j d lt within = absurd (omega arith)
@@ -53,6 +55,14 @@ none_locked = record {
   held = All-from_recursion (λ (l : Lock). IsTrue (can_hold [] [] l)) [] tt;
 }
 
+-- without modes, they are good
+pub no_modes : (units : ℕ) → AreGoodModes units []
+no_modes units = record {
+  count = lit≤ tt;
+  footprints = All-from_recursion (λ (s : ModeShape). s.footprint ≤ 512) [] tt;
+  slots = All-from_recursion (λ (s : ModeShape). IsTrue (has_slots units [] s)) [] tt;
+}
+
 pub demo_can_be_made : (subs : ℕ) → subs ≤ 512 → CanBeMade (demo subs)
 unfolding demo demo_root demo_sub demo_slots demo_tests demo_statuses
 demo_can_be_made subs few = (
@@ -69,5 +79,6 @@ demo_can_be_made subs few = (
     without = none_left_out;
     locks = none_locked;
     binding = refl;
+    modes = no_modes 2;
   },
 )

@@ -14,6 +14,7 @@ use Rattle.rdm_profile.specs.declared.profile.fields.Field.{Field}
 use Rattle.rdm_profile.specs.declared.profile.locks.Lock.{Lock}
 use Rattle.rdm_profile.specs.declared.profile.fields.Width.{Width}
 use Rattle.rdm_profile.specs.declared.profile.mute_reply.MuteReply.{MuteReply}
+use Rattle.rdm_profile.specs.declared.profile.modes.Mode.{Mode}
 use Rattle.rdm_profile.specs.declared.profile.Personality.{Personality}
 use Rattle.rdm_profile.specs.declared.profile.Profile.{Profile}
 use Rattle.rdm_profile.specs.declared.profile.SelfTest.{SelfTest}
@@ -39,6 +40,7 @@ use Rattle.rdm_profile.specs.contracts.profile.choices.ChoiceNamePartialEq.TheIm
 use Rattle.rdm_profile.specs.contracts.profile.fields.FieldPartialEq.TheImpl as fields
 use Rattle.rdm_profile.specs.contracts.profile.locks.LockPartialEq.TheImpl as locks
 use Rattle.rdm_profile.specs.contracts.profile.fields.WidthPartialEq.TheImpl as widths
+use Rattle.rdm_profile.specs.contracts.profile.modes.ModePartialEq.TheImpl as modes
 use Rattle.rdm_profile.specs.contracts.profile.mute_reply.MuteReplyPartialEq.TheImpl as mute_replies
 use Rattle.rdm_frame.specs.contracts.uid.UidPartialEq.TheImpl as uids
 use Rattle.rdm_profile.specs.contracts.profile.workers.WorkerPartialEq.TheImpl as worker
@@ -206,6 +208,20 @@ mute_reply_decides uid a b =
     (λ e. (ap (λ (x : MuteReply). x.proxied_device) e, (ap (λ (x : MuteReply). x.boot_loader) e, ap (λ (x : MuteReply). x.binding) e)))
     (Decides-and _ _ (bools a.proxied_device b.proxied_device) (Decides-and _ _ (bools a.boot_loader b.boot_loader) (maybe_decides uid a.binding b.binding)))
 
+-- ---- modes
+
+abbrev mode_of : Personality → ℕ → List Slot → Mode
+mode_of a0 a1 a2 = record { personality = a0; slots_of = a1; slots = a2 }
+
+same_mode : {a0 b0 : Personality} {a1 b1 : ℕ} {a2 b2 : List Slot} → (a0 ≡ b0) × ((a1 ≡ b1) × (a2 ≡ b2)) → mode_of a0 a1 a2 ≡ mode_of b0 b1 b2
+same_mode e = rw (e.0, e.1.0, e.1.1) refl
+
+pub mode_decides : IsByValue personalities.ghosts.eq → IsByValue slots.ghosts.eq → IsByValue modes.ghosts.eq
+mode_decides personality slot a b =
+    Decides-like _ same_mode
+    (λ e. (ap (λ (x : Mode). x.personality) e, (ap (λ (x : Mode). x.slots_of) e, ap (λ (x : Mode). x.slots) e)))
+    (Decides-and _ _ (personality a.personality b.personality) (number a.slots_of b.slots_of (slice_eq-Decides slot a.slots b.slots _ refl)))
+
 -- ---- workers
 
 abbrev workers_of : Worker → Worker → Worker → Worker → Workers
@@ -222,20 +238,20 @@ workers_decide each a b =
 
 -- ---- particulars
 
-abbrev particular_of : List ParameterDef → List ChoiceName → List Lock → ArrayVec ℕ 36 (Unit {0}) → ℕ → Estimates → MuteReply → Bool → Particular
-particular_of a0 a1 a2 a3 a4 a5 a6 a7 =
-    record { own = a0; choices = a1; locks = a2; without = a3; more_slots = a4; estimates = a5; mute_reply = a6; newest_only = a7 }
+abbrev particular_of : List ParameterDef → List ChoiceName → List Lock → ArrayVec ℕ 36 (Unit {0}) → ℕ → Estimates → MuteReply → Bool → List Mode → Particular
+particular_of a0 a1 a2 a3 a4 a5 a6 a7 a8 =
+    record { own = a0; choices = a1; locks = a2; without = a3; more_slots = a4; estimates = a5; mute_reply = a6; newest_only = a7; modes = a8 }
 
-same_particular : {a0 b0 : List ParameterDef} {a1 b1 : List ChoiceName} {a2 b2 : List Lock} {a3 b3 : ArrayVec ℕ 36 (Unit {0})} {a4 b4 : ℕ} {a5 b5 : Estimates} {a6 b6 : MuteReply} {a7 b7 : Bool}
-    → (a0 ≡ b0) × ((a1 ≡ b1) × ((a2 ≡ b2) × ((a3 ≡ b3) × ((a4 ≡ b4) × ((a5 ≡ b5) × ((a6 ≡ b6) × (a7 ≡ b7)))))))
-    → particular_of a0 a1 a2 a3 a4 a5 a6 a7 ≡ particular_of b0 b1 b2 b3 b4 b5 b6 b7
-same_particular e = rw (e.0, e.1.0, e.1.1.0, e.1.1.1.0, e.1.1.1.1.0, e.1.1.1.1.1.0, e.1.1.1.1.1.1.0, e.1.1.1.1.1.1.1) refl
+same_particular : {a0 b0 : List ParameterDef} {a1 b1 : List ChoiceName} {a2 b2 : List Lock} {a3 b3 : ArrayVec ℕ 36 (Unit {0})} {a4 b4 : ℕ} {a5 b5 : Estimates} {a6 b6 : MuteReply} {a7 b7 : Bool} {a8 b8 : List Mode}
+    → (a0 ≡ b0) × ((a1 ≡ b1) × ((a2 ≡ b2) × ((a3 ≡ b3) × ((a4 ≡ b4) × ((a5 ≡ b5) × ((a6 ≡ b6) × ((a7 ≡ b7) × (a8 ≡ b8))))))))
+    → particular_of a0 a1 a2 a3 a4 a5 a6 a7 a8 ≡ particular_of b0 b1 b2 b3 b4 b5 b6 b7 b8
+same_particular e = rw (e.0, e.1.0, e.1.1.0, e.1.1.1.0, e.1.1.1.1.0, e.1.1.1.1.1.0, e.1.1.1.1.1.1.0, e.1.1.1.1.1.1.1.0, e.1.1.1.1.1.1.1.1) refl
 
-pub particular_decides : IsByValue parameter_defs.ghosts.eq → IsByValue choice_names.ghosts.eq → IsByValue locks.ghosts.eq → IsByValue estimates.ghosts.eq → IsByValue mute_replies.ghosts.eq → IsByValue particulars.ghosts.eq
-particular_decides parameter choice lock estimate mute_reply a b =
+pub particular_decides : IsByValue parameter_defs.ghosts.eq → IsByValue choice_names.ghosts.eq → IsByValue locks.ghosts.eq → IsByValue estimates.ghosts.eq → IsByValue mute_replies.ghosts.eq → IsByValue modes.ghosts.eq → IsByValue particulars.ghosts.eq
+particular_decides parameter choice lock estimate mute_reply mode a b =
     Decides-like _ same_particular
-    (λ e. (ap (λ (p : Particular). p.own) e, (ap (λ (p : Particular). p.choices) e, (ap (λ (p : Particular). p.locks) e, (ap (λ (p : Particular). p.without) e, (ap (λ (p : Particular). p.more_slots) e, (ap (λ (p : Particular). p.estimates) e, (ap (λ (p : Particular). p.mute_reply) e, ap (λ (p : Particular). p.newest_only) e))))))))
-    (Decides-and _ _ (slice_eq-Decides parameter a.own b.own _ refl) (Decides-and _ _ (slice_eq-Decides choice a.choices b.choices _ refl) (Decides-and _ _ (slice_eq-Decides lock a.locks b.locks _ refl) (Decides-and _ _ (list_decides 36 Decides-eqb a.without b.without) (number a.more_slots b.more_slots (Decides-and _ _ (estimate a.estimates b.estimates) (Decides-and _ _ (mute_reply a.mute_reply b.mute_reply) (bools a.newest_only b.newest_only))))))))
+    (λ e. (ap (λ (p : Particular). p.own) e, (ap (λ (p : Particular). p.choices) e, (ap (λ (p : Particular). p.locks) e, (ap (λ (p : Particular). p.without) e, (ap (λ (p : Particular). p.more_slots) e, (ap (λ (p : Particular). p.estimates) e, (ap (λ (p : Particular). p.mute_reply) e, (ap (λ (p : Particular). p.newest_only) e, ap (λ (p : Particular). p.modes) e)))))))))
+    (Decides-and _ _ (slice_eq-Decides parameter a.own b.own _ refl) (Decides-and _ _ (slice_eq-Decides choice a.choices b.choices _ refl) (Decides-and _ _ (slice_eq-Decides lock a.locks b.locks _ refl) (Decides-and _ _ (list_decides 36 Decides-eqb a.without b.without) (number a.more_slots b.more_slots (Decides-and _ _ (estimate a.estimates b.estimates) (Decides-and _ _ (mute_reply a.mute_reply b.mute_reply) (Decides-and _ _ (bools a.newest_only b.newest_only) (slice_eq-Decides mode a.modes b.modes _ refl)))))))))
 
 -- ---- profiles
 

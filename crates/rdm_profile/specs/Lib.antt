@@ -5,6 +5,7 @@ pub mod Fields
 pub mod Forms
 pub mod LeftOut
 pub mod Locks
+pub mod Modes
 pub mod MuteReply
 pub mod OwnParameters
 pub mod Particulars

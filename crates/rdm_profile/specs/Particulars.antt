@@ -5,7 +5,8 @@ use Rattle.rdm_profile.specs.declared.profile.particulars.Particular.{Particular
 use Rattle.rdm_profile.specs.Estimates.{usual}
 use Rattle.rdm_profile.specs.MuteReply.{plain_reply}
 
--- nothing: no parameters of the maker's own, none left out, the usual estimates, nothing told when it is muted, and each message waits
+-- nothing: no parameters of the maker's own, none left out, the usual estimates, nothing told when it is muted, each message waits, and no
+-- personality has slots of its own
 abbrev pub usual_particular : Particular
 usual_particular = record {
   own = [];
@@ -16,6 +17,7 @@ usual_particular = record {
   estimates = usual;
   mute_reply = plain_reply;
   newest_only = false;
+  modes = [];
 }
 
 -- what there is, or nothing

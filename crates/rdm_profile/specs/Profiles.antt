@@ -3,11 +3,13 @@ use Rattle.std.specs.Prelude.{◌≢◌, ℕ, ◌+◌, ◌<◌, ◌≤◌, min, 
 use Rattle.rdm_profile.specs.declared.profile.Profile.{Profile}
 use Rattle.rdm_profile.specs.declared.profile.choices.ChoiceName.{ChoiceName}
 use Rattle.rdm_profile.specs.declared.profile.locks.Lock.{Lock}
+use Rattle.rdm_profile.specs.declared.profile.modes.ModeShape.{ModeShape}
 use Rattle.rdm_profile.specs.declared.profile.own.ParameterDef.{ParameterDef}
 use Rattle.rdm_profile.specs.declared.profile.Unit.{Unit as DeviceUnit}
 use Rattle.rdm_profile.specs.Choices.{agrees, is_needed, comes_before}
 use Rattle.rdm_profile.specs.Locks.{has_state, can_open, can_hold}
 use Rattle.rdm_profile.specs.LeftOut.{is_optional, leave_no_need}
+use Rattle.rdm_profile.specs.Modes.{has_slots, mode_shapes}
 use Rattle.rdm_profile.specs.MuteReply.{can_bind}
 use Rattle.rdm_profile.specs.OwnParameters.{is_addable, has_limits, can_start, has_good_fields}
 use Rattle.rdm_profile.specs.Standards.{follows}
@@ -94,9 +96,16 @@ pub record MayBeLeftOut (pids : List ℕ) : Type 0 where
   pub optional : AreOptional pids
   pub needs : IsTrue (leave_no_need pids)
 
+-- The modes behind so many personalities are at most 247, so that there are at most 255 in all; none uses more slots than DMX512 has; and
+-- each has slots of its own, or those of a personality that has.
+pub record AreGoodModes (units : ℕ) (shapes : List ModeShape) : Type 0 where
+  pub count : length shapes ≤ 247
+  pub footprints : All (λ s. s.footprint ≤ 512) shapes
+  pub slots : All (λ s. IsTrue (has_slots units shapes s)) shapes
+
 -- Both units are good; there is a language; no self test is numbered 0 or 255 and no two alike; no two status IDs
 -- are alike; the number of presets isn't the one that stands for all of them; those parameters that are left out may be; the
--- parameters of the maker's own are good; so are the locks; and a binding UID is that of one port.
+-- parameters of the maker's own are good; so are the locks; a binding UID is that of one port; and so are the modes good.
 pub record IsGoodProfile (p : Profile) : Type 0 where
   pub root : IsGoodUnit p.root (root_slots p)
   pub sub : IsGoodUnit p.sub 512
@@ -109,6 +118,7 @@ pub record IsGoodProfile (p : Profile) : Type 0 where
   pub without : MayBeLeftOut p.particulars.without.items
   pub locks : AreGoodLocks p.particulars.without.items p.particulars.own p.particulars.locks
   pub binding : IsTrue (can_bind p.particulars.mute_reply.binding)
+  pub modes : AreGoodModes (length p.root.personalities.items) (mode_shapes p)
 
 -- It is good, and has no more sub-devices than there can be.
 abbrev pub CanBeMade : Profile → Type 0

@@ -3,7 +3,7 @@
 ghost use Rattle.std.specs.Prelude.{◌≡◌, ◌↔◌, IsTrue};
 
 use crate::{
-    ChoiceName, Estimates, Field, Lock, MuteReply, ParameterDef, Particular, Particulars,
+    ChoiceName, Estimates, Field, Lock, Mode, MuteReply, ParameterDef, Particular, Particulars,
     Personality, Profile, Rights, SelfTest, SensorDef, Shape, Slot, StatusText, Unit, Value, Width,
     Worker, Workers,
 };
@@ -94,6 +94,14 @@ pub fn mute_replies_are_equal_by_value()
     uids_are_equal_by_value();
 }
 
+/// Two modes are equal by `==` exactly when their personalities are, and their own slots or those that they share.
+pub fn modes_are_equal_by_value()
+    ensures { (a b : Mode) → IsTrue (⟦<Mode as PartialEq>⟧.eq a b) ↔ (a ≡ b) }
+{
+    personalities_are_equal_by_value();
+    slots_are_equal_by_value();
+}
+
 /// Two values of `Worker` are equal by `==` exactly when they are the same.
 pub fn workers_are_equal_by_value()
     ensures { (a b : Worker) → IsTrue (⟦<Worker as PartialEq>⟧.eq a b) ↔ (a ≡ b) }
@@ -115,6 +123,7 @@ pub fn particulars_are_equal_by_value()
     locks_are_equal_by_value();
     estimates_are_equal_by_value();
     mute_replies_are_equal_by_value();
+    modes_are_equal_by_value();
 }
 
 /// Two profiles are equal by `==` exactly when each of their fields is.

@@ -3,11 +3,13 @@
 mod blank;
 pub(crate) mod choices;
 mod demo;
+mod described;
 pub(crate) mod estimates;
 pub(crate) mod fields;
 pub(crate) mod left_out;
 pub(crate) mod locks;
 mod making;
+pub(crate) mod modes;
 pub(crate) mod mute_reply;
 pub(crate) mod own;
 pub(crate) mod particulars;

@@ -1,16 +1,17 @@
 -- The rules of a profile: all of them, and one by one.
 use Rattle.std.proofs.Common.{◌≡◌, ℕ, List, ap, ◌∙◌}
-use Rattle.std.specs.Prelude.{IsTrue}
+use Rattle.std.specs.Prelude.{IsTrue, length}
 use Rattle.rdm_profile.specs.declared.profile.Profile.{Profile}
 use Rattle.rdm_profile.specs.declared.profile.choices.ChoiceName.{ChoiceName}
 use Rattle.rdm_profile.specs.declared.profile.own.ParameterDef.{ParameterDef}
+use Rattle.rdm_profile.specs.Modes.{mode_shapes}
 use Rattle.rdm_profile.specs.MuteReply.{can_bind}
 use Rattle.rdm_profile_rules.specs.Faults.{KeepsOthers, KeepsParameters, with_parameters, with_slots}
-use Rattle.rdm_profile.specs.Profiles.{CanBeMade, MayBeLeftOut, AreGoodParameters, AreGoodLocks}
+use Rattle.rdm_profile.specs.Profiles.{CanBeMade, MayBeLeftOut, AreGoodParameters, AreGoodLocks, AreGoodModes}
 
 -- a profile that keeps the rules which don't speak of parameters, with good ones
-pub made : (p : Profile) (more_slots : ℕ) (without : List ℕ) (own : List ParameterDef) (choices : List ChoiceName) → KeepsOthers (with_slots p more_slots) → MayBeLeftOut without × AreGoodParameters own choices × AreGoodLocks without own p.particulars.locks → IsTrue (can_bind p.particulars.mute_reply.binding) → CanBeMade (with_parameters p more_slots without own choices)
-made p more_slots without own choices h good binding = (
+pub made : (p : Profile) (more_slots : ℕ) (without : List ℕ) (own : List ParameterDef) (choices : List ChoiceName) → KeepsOthers (with_slots p more_slots) → MayBeLeftOut without × AreGoodParameters own choices × AreGoodLocks without own p.particulars.locks → IsTrue (can_bind p.particulars.mute_reply.binding) → AreGoodModes (length p.root.personalities.items) (mode_shapes p) → CanBeMade (with_parameters p more_slots without own choices)
+made p more_slots without own choices h good binding modes = (
   h.0,
   record {
     root = record { personality = h.2.0; start_least = h.3.0.0; start_greatest = h.3.0.1; footprints = h.4 };
@@ -24,6 +25,7 @@ made p more_slots without own choices h good binding = (
     without = good.0;
     locks = good.2;
     binding = binding;
+    modes = modes;
   },
 )
 
@@ -38,6 +40,9 @@ keeps_parameters p more_slots without own choices can = (can.1.without, can.1.ow
 
 pub keeps_binding : (p : Profile) (more_slots : ℕ) (without : List ℕ) (own : List ParameterDef) (choices : List ChoiceName) → CanBeMade (with_parameters p more_slots without own choices) → IsTrue (can_bind p.particulars.mute_reply.binding)
 keeps_binding p more_slots without own choices can = can.1.binding
+
+pub keeps_modes : (p : Profile) (more_slots : ℕ) (without : List ℕ) (own : List ParameterDef) (choices : List ChoiceName) → CanBeMade (with_parameters p more_slots without own choices) → AreGoodModes (length p.root.personalities.items) (mode_shapes p)
+keeps_modes p more_slots without own choices can = can.1.modes
 
 -- one that keeps all rules but that of its binding UID
 pub keeps_before : (p : Profile) (more_slots : ℕ) (without : List ℕ) (own : List ParameterDef) (choices : List ChoiceName) → KeepsOthers (with_slots p more_slots) → MayBeLeftOut without × AreGoodParameters own choices × AreGoodLocks without own p.particulars.locks → KeepsParameters (with_parameters p more_slots without own choices)

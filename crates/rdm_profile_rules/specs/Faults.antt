@@ -6,8 +6,9 @@ use Rattle.rdm_profile.specs.declared.profile.own.ParameterDef.{ParameterDef}
 use Rattle.rdm_profile.specs.declared.profile.particulars.Particular.{Particular}
 use Rattle.rdm_profile.specs.declared.profile.Unit.{Unit as DeviceUnit}
 use Rattle.rdm_profile_rules.specs.declared.faults.ProfileFault.{ProfileFault}
-use Rattle.rdm_profile_rules.specs.declared.faults.ProfileFault.TheVariants.{SubDevices, Presets, Personalities, Start, RootFootprint, SubFootprint, Languages, TestNumber, TwinTests, TwinStatusTexts, LeftOut, LeftOutNeeded, ParameterCount, ParameterPid, ParameterLimits, ParameterStart, ParameterOrder, ParameterFields, ParameterStandard, ParameterNames, ParameterLocks, ParameterLockState, ParameterLocked, BindingUid}
+use Rattle.rdm_profile_rules.specs.declared.faults.ProfileFault.TheVariants.{SubDevices, Presets, Personalities, Start, RootFootprint, SubFootprint, Languages, TestNumber, TwinTests, TwinStatusTexts, LeftOut, LeftOutNeeded, ParameterCount, ParameterPid, ParameterLimits, ParameterStart, ParameterOrder, ParameterFields, ParameterStandard, ParameterNames, ParameterLocks, ParameterLockState, ParameterLocked, BindingUid, ModeCount, ModeFootprint, ModeSlots}
 use Rattle.rdm_profile.specs.LeftOut.{leave_no_need}
+use Rattle.rdm_profile.specs.Modes.{has_slots, mode_shapes}
 use Rattle.rdm_profile.specs.MuteReply.{can_bind}
 use Rattle.rdm_profile.specs.Profiles.{root_slots, AreGoodLocks, AreGoodParameters, AreOptional, HaveFreePids, HaveLimits, HaveStarts, Ascend, HaveFields, FollowStandards, Agree, HaveStates, CanOpen, CanHold, MayBeLeftOut}
 
@@ -41,6 +42,9 @@ Keeps ParameterLocks p = HaveStates p.particulars.own p.particulars.locks
 Keeps ParameterLockState p = CanOpen p.particulars.own
 Keeps ParameterLocked p = CanHold p.particulars.without.items p.particulars.own p.particulars.locks
 Keeps BindingUid p = IsTrue (can_bind p.particulars.mute_reply.binding)
+Keeps ModeCount p = length (mode_shapes p) ≤ 247
+Keeps ModeFootprint p = All (λ s. s.footprint ≤ 512) (mode_shapes p)
+Keeps ModeSlots p = All (λ s. IsTrue (has_slots (length p.root.personalities.items) (mode_shapes p) s)) (mode_shapes p)
 
 -- the rules that don't speak of parameters, kept
 abbrev pub KeepsOthers : Profile → Type 0
@@ -65,6 +69,10 @@ KeepsNamed p = KeepsListed p × Keeps ParameterFields p × Keeps ParameterStanda
 -- those, and the rules of locks: all that speak of parameters
 abbrev pub KeepsParameters : Profile → Type 0
 KeepsParameters p = KeepsNamed p × Keeps ParameterLocks p × Keeps ParameterLockState p × Keeps ParameterLocked p
+
+-- those, and the rule of the binding UID: all that don't speak of modes
+abbrev pub KeepsBinding : Profile → Type 0
+KeepsBinding p = KeepsParameters p × Keeps BindingUid p
 
 -- the rules before it, kept
 abbrev pub KeepsBefore : ProfileFault → Profile → Type 0
@@ -100,6 +108,9 @@ KeepsBefore ParameterLocks p = KeepsNamed p
 KeepsBefore ParameterLockState p = KeepsNamed p × Keeps ParameterLocks p
 KeepsBefore ParameterLocked p = KeepsNamed p × Keeps ParameterLocks p × Keeps ParameterLockState p
 KeepsBefore BindingUid p = KeepsParameters p
+KeepsBefore ModeCount p = KeepsBinding p
+KeepsBefore ModeFootprint p = KeepsBinding p × Keeps ModeCount p
+KeepsBefore ModeSlots p = KeepsBinding p × Keeps ModeCount p × Keeps ModeFootprint p
 
 -- It is the first rule that the profile breaks.
 abbrev pub IsFirstBroken : ProfileFault → Profile → Type 0

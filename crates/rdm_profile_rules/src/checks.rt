@@ -1,11 +1,12 @@
 //! Which profiles a device can be made with.
 
-ghost use Rattle.std.specs.Prelude.{◌≡◌, ◌≢◌, ◌↔◌, ◌<◌, ◌≤◌, IsTrue, All, AllPairs};
+ghost use Rattle.std.specs.Prelude.{◌≡◌, ◌≢◌, ◌↔◌, ◌<◌, ◌≤◌, IsTrue, All, AllPairs, length};
 ghost use Rattle.rdm_profile_rules.specs.Faults.{AreGood, with_slots};
+ghost use Rattle.rdm_profile.specs.Modes.{mode_shapes};
 ghost use Rattle.rdm_profile.specs.MuteReply.{can_bind};
-ghost use Rattle.rdm_profile.specs.Profiles.{IsGoodUnit, IsGoodProfile, root_slots};
+ghost use Rattle.rdm_profile.specs.Profiles.{AreGoodModes, IsGoodUnit, IsGoodProfile, root_slots};
 
-use crate::faults::parameter_fault;
+use crate::faults::{fault_of_modes, parameter_fault};
 use rdm_frame::standard::MOST_DMX_SLOTS;
 use rdm_profile::{MuteReply, Particulars, Personality, Profile, SelfTest, StatusText, Unit};
 
@@ -21,6 +22,17 @@ pub fn is_good(profile: &Profile) -> bool
         && statuses_differ(profile.status_texts.as_slice())
         && profile.presets < 65535
         && can_differ(&profile.particulars)
+        && are_good_modes(profile)
+}
+
+/// Whether the personalities that have slots of their own keep their rules.
+fn are_good_modes(profile: &Profile) -> bool
+    ensures { IsTrue result ↔ AreGoodModes (length profile.now.root.personalities.items) (mode_shapes profile.now) }
+{
+    match fault_of_modes(profile) {
+        None => true,
+        Some(_) => false,
+    }
 }
 
 /// Whether what sets a device apart can: it can lack these parameters, and have those of the maker's own, with these locks; and its

@@ -1,19 +1,22 @@
 //! Which rule a profile breaks.
 
-ghost use Rattle.std.specs.Prelude.{◌≡◌, ◌↔◌, ℕ, List, None, IfSome, IsTrue};
-ghost use Rattle.rdm_profile_rules.specs.Faults.{IsFirstBroken, IsStart, KeepsOthers, KeepsLeftOut, KeepsListed, KeepsNamed, KeepsOwn, KeepsParameters, with_parameters, with_slots};
+ghost use Rattle.std.specs.Prelude.{◌≡◌, ◌↔◌, ℕ, List, None, IfSome, IsTrue, length};
+ghost use Rattle.rdm_profile_rules.specs.Faults.{IsFirstBroken, IsStart, KeepsBinding, KeepsOthers, KeepsLeftOut, KeepsListed, KeepsNamed, KeepsOwn, KeepsParameters, with_parameters, with_slots};
+ghost use Rattle.rdm_profile.specs.Modes.{mode_shapes};
 ghost use Rattle.rdm_profile.specs.MuteReply.{can_bind};
-ghost use Rattle.rdm_profile.specs.Profiles.{CanBeMade, MayBeLeftOut, AreGoodParameters, AreGoodLocks, HaveFields, FollowStandards};
+ghost use Rattle.rdm_profile.specs.Profiles.{CanBeMade, MayBeLeftOut, AreGoodParameters, AreGoodLocks, AreGoodModes, HaveFields, FollowStandards};
 
 use crate::checks::{are_numbered, can_bind, fit, slots_with, statuses_differ, tests_differ};
 use crate::choice_checks::agree;
 use crate::field_checks::have_fields;
 use crate::locks::{can_hold, can_open, have_states};
+use crate::modes::{MOST_MODES, have_slots, modes_fit, shapes_of};
 use crate::own_checks::{are_ascending, are_few, have_free_pids, have_limits, have_starts};
 use crate::standards::follow_standards;
 use rdm_frame::standard::{MOST_DMX_SLOTS, MOST_SUB_DEVICES};
 use rdm_profile::{
-    ChoiceName, Lock, MuteReply, ParameterDef, Profile, Unit, are_optional, leave_no_need,
+    ChoiceName, Lock, ModeShape, MuteReply, ParameterDef, Profile, Unit, are_optional,
+    leave_no_need,
 };
 
 /// A rule of profiles that is broken, in the order in which they are tested.
@@ -73,6 +76,13 @@ pub enum ProfileFault {
     ParameterLocked,
     /// The binding UID addresses more than one device (section 7.6).
     BindingUid,
+    /// There are more than 247 modes.
+    ModeCount,
+    /// A mode uses more than 512 slots (section 10.6.1).
+    ModeFootprint,
+    /// A mode has more than 46 slots of its own, or slots of its own although it names another personality; or it names one that isn't
+    /// there, or that has no slots of its own itself (section 10.6.4).
+    ModeSlots,
 }
 
 /// The first rule that the profile breaks, or `None` if it breaks none: a device can be made with it then.
@@ -92,7 +102,7 @@ pub fn profile_fault(profile: &Profile) -> Option<ProfileFault>
 /// The first rule that the profile would break if it had so many slots beside those that it describes, left out the parameters with these
 /// PIDs, and had these of the maker's own with these names of choices, and no others, or `None` if it would break none; what else sets it
 /// apart is as it is. So they can be judged before there is memory for them.
-#[tactic(auto, using(crate::proofs::FirstFaults::made, crate::proofs::FirstFaults::keeps_others, crate::proofs::FirstFaults::keeps_parameters, crate::proofs::FirstFaults::keeps_binding, crate::proofs::FirstFaults::keeps_before))]
+#[tactic(auto, using(crate::proofs::FirstFaults::made, crate::proofs::FirstFaults::keeps_others, crate::proofs::FirstFaults::keeps_parameters, crate::proofs::FirstFaults::keeps_binding, crate::proofs::FirstFaults::keeps_modes, crate::proofs::FirstFaults::keeps_before))]
 pub fn profile_fault_with(
     profile: &Profile,
     more_slots: u16,
@@ -106,10 +116,43 @@ pub fn profile_fault_with(
     if let Some(fault) = other_fault(profile, more_slots) {
         return Some(fault);
     }
-    match parameter_fault(without, own, choices, profile.particulars.locks()) {
-        Some(fault) => Some(fault),
-        None => mute_fault(&profile.particulars.mute_reply()),
+    if let Some(fault) = parameter_fault(without, own, choices, profile.particulars.locks()) {
+        return Some(fault);
     }
+    match mute_fault(&profile.particulars.mute_reply()) {
+        Some(fault) => Some(fault),
+        None => fault_of_modes(profile),
+    }
+}
+
+/// The first rule of modes that the profile breaks.
+pub(crate) fn fault_of_modes(profile: &Profile) -> Option<ProfileFault>
+    ensures good { (result ≡ None) ↔ AreGoodModes (length profile.now.root.personalities.items) (mode_shapes profile.now) }
+    ensures first { (without : List ℕ) (own : List ParameterDef) (choices : List ChoiceName) (more_slots : ℕ)
+        → KeepsBinding (with_parameters profile.now more_slots without own choices)
+        → IfSome result (λ fault. IsFirstBroken fault (with_parameters profile.now more_slots without own choices)) }
+{
+    let shapes = shapes_of(profile.particulars.modes());
+    mode_fault(profile.root.personalities.len(), shapes.as_slice())
+}
+
+/// The first rule that is broken by modes of these shapes, behind so many personalities of the root's unit. So they can be judged before
+/// there is memory for them.
+pub fn mode_fault(units: usize, shapes: &[ModeShape]) -> Option<ProfileFault>
+    ensures good { (result ≡ None) ↔ AreGoodModes units shapes.now }
+    ensures first { (p : Profile) → length p.root.personalities.items ≡ units → mode_shapes p ≡ shapes.now → KeepsBinding p
+        → IfSome result (λ fault. IsFirstBroken fault p) }
+{
+    if shapes.len() > MOST_MODES {
+        return Some(ProfileFault::ModeCount);
+    }
+    if !modes_fit(shapes) {
+        return Some(ProfileFault::ModeFootprint);
+    }
+    if !have_slots(units, shapes) {
+        return Some(ProfileFault::ModeSlots);
+    }
+    None
 }
 
 /// The rule that is broken by what the answer to DISC_MUTE tells, if one is.

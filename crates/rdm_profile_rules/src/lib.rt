@@ -8,12 +8,15 @@ mod field_checks;
 mod laws;
 mod lines;
 mod locks;
+mod modes;
 mod own_checks;
 mod standards;
 
 pub use checks::is_good;
 pub use choice_checks::agree;
-pub use faults::{ProfileFault, mute_fault, own_fault, profile_fault, profile_fault_with};
+pub use faults::{
+    ProfileFault, mode_fault, mute_fault, own_fault, profile_fault, profile_fault_with,
+};
 pub use field_checks::has_good_fields;
 pub use laws::profile_faults_are_equal_by_value;
 pub use locks::{can_hold, can_open, have_states};

@@ -5,6 +5,7 @@ pub mod Choices
 pub mod Growth
 pub mod Lawfulness
 pub mod Options
+pub mod Results
 pub mod Room
 pub mod Runs
 pub mod Shown

@@ -1,11 +1,18 @@
 -- Laws of histories.
-use Rattle.std.specs.Prelude.{◌≡◌, ◌≤◌, ℕ, length}
+use Rattle.std.specs.Prelude.{◌≡◌, ◌≤◌, ℕ, false, IsTrue, length}
+use Rattle.rdm_commands.specs.declared.jobs.outcome.Outcome.{Outcome}
+use Rattle.rdm_commands.specs.declared.jobs.work.Work.{Work}
+use Rattle.rdm_commands.specs.declared.panel.Change.{Change}
+use Rattle.rdm_params.specs.Commands.Panel.{told}
 use Rattle.rdm_params.specs.Commands.Saving.{powered_on}
 use Rattle.rdm_params.specs.Device.Parameters.{Parameters}
+use Rattle.rdm_params.specs.Jobs.Commit.{committed}
+use Rattle.rdm_params.specs.Jobs.Outcome.{fits}
 use Rattle.rdm_saved.specs.Laws.{IsWhole, AreTexts, AreWhole, AreOfOneMake, taken}
 use Rattle.rdm_saved.specs.SavedText.{saved_text}
 use Rattle.rdm_outbox.specs.Account as outbox
 use Rattle.rdm_outbox.specs.Jobs.{jobs_of, ended_of}
+use Rattle.rdm_outbox.specs.Messages.{tell_of_same}
 use Rattle.rdm_outbox.specs.State.{HasRoom}
 use Rattle.rdm_responder.specs.History.{History, Restored, then_event}
 use Rattle.rdm_responder.specs.Lawful.{IsLawful, MayRestore}
@@ -54,3 +61,9 @@ SavedValuesAreRestored =
     → AreOfOneMake (values_of restores) (values_of saves) → maker_of restores ≡ maker_of saves
     → MayRestore (account_of restores) (saved_text (maker_of saves) (values_of saves))
     × (values_of (then_event restores (Restored (saved_text (maker_of saves) (values_of saves)))) ≡ powered_on (taken (values_of restores) (values_of saves)))
+
+-- The message of a change at the menu never tells of the same as the result of a job, whatever the values are: so none takes the place of
+-- a result that waits.
+abbrev pub ResultsAreNeverReplaced : Type 0
+ResultsAreNeverReplaced =
+    (p q : Parameters) (change : Change) (w : Work) (outcome : Outcome) → IsTrue (fits w outcome) → tell_of_same (told p change) (committed q w outcome) ≡ false

@@ -1,7 +1,7 @@
 //! Laws of histories, and of `==`, by which tests compare. Each is the contract of a call that does nothing.
 
 ghost use Rattle.std.specs.Prelude.{◌≡◌, ◌↔◌, IsTrue};
-ghost use Rattle.rdm_responder.specs.Laws.{LawfulHistoriesCanBeShown, LawfulHistoriesHaveOneState, LawfulHistoriesHaveRoom, SavedValuesAreRestored};
+ghost use Rattle.rdm_responder.specs.Laws.{LawfulHistoriesCanBeShown, LawfulHistoriesHaveOneState, LawfulHistoriesHaveRoom, ResultsAreNeverReplaced, SavedValuesAreRestored};
 
 use crate::{Arrival, Astray, NewError, NoRoom, Output, Report, Started, Stepped};
 use rdm_frame::bytes_are_equal_by_value;
@@ -27,6 +27,11 @@ pub fn saved_values_are_restored()
 {
     saved_is_restored();
 }
+
+/// The message of a change at the fixture's own menu never takes the place of the result of a job: it is for another parameter.
+pub fn results_are_never_replaced()
+    ensures { ResultsAreNeverReplaced }
+{}
 
 /// Two reports are equal by `==` exactly when their jobs and their outcomes are.
 pub fn reports_are_equal_by_value()

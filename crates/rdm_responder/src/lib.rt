@@ -20,8 +20,8 @@ mod stepped;
 pub use laws::{
     answers_are_equal_by_value, arrivals_are_equal_by_value, astrays_are_equal_by_value,
     lawful_histories_have_one_state, new_errors_are_equal_by_value, no_rooms_are_equal_by_value,
-    outputs_are_equal_by_value, reports_are_equal_by_value, saved_values_are_restored,
-    starts_are_equal_by_value,
+    outputs_are_equal_by_value, reports_are_equal_by_value, results_are_never_replaced,
+    saved_values_are_restored, starts_are_equal_by_value,
 };
 pub use rdm_frame::{Body, Text, Uid, Wire};
 pub use rdm_outbox::Job;

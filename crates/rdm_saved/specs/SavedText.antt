@@ -10,6 +10,7 @@ use Rattle.rdm_added.specs.Parameters.{Parameters}
 use Rattle.rdm_added.specs.declared.state.CommonValues.{CommonValues}
 use Rattle.rdm_added.specs.declared.state.RootValues.{RootValues}
 use Rattle.rdm_added.specs.Views.State.{common_entries, own_entries, added_entries}
+use Rattle.rdm_profile.specs.Modes.{root_personalities}
 use Rattle.rdm_profile.specs.Values.{word_slots, long_slots}
 
 -- The values of the moment, which power-off ends: LAMP_STATE, IDENTIFY_DEVICE, POWER_STATE, PERFORM_SELFTEST and
@@ -41,14 +42,14 @@ abbrev pub added_text : List Entry → List ℕ
 added_text entries = flat_map kept_text entries
 
 -- the model, the software version and how many personalities there are
-abbrev pub unit_text : DeviceUnit → List ℕ
-unit_text u = word_slots u.model ++ long_slots u.software ++ length u.personalities.items ∷ []
+abbrev pub unit_text : DeviceUnit → ℕ → List ℕ
+unit_text u personalities = word_slots u.model ++ long_slots u.software ++ personalities ∷ []
 
 -- The two kinds of devices; and how many sub-devices, sensors, parameters that the maker adds, PIDs that are left out, and values of
 -- parameters that the maker adds there are.
 abbrev pub devices_text : Profile → ℕ → List ℕ
 devices_text p kept =
-    unit_text p.root ++ unit_text p.sub ++ word_slots p.subs
+    unit_text p.root (length (root_personalities p)) ++ unit_text p.sub (length p.sub.personalities.items) ++ word_slots p.subs
     ++ length p.sensors.items ∷ length p.particulars.own ∷ length p.particulars.without.items ∷ word_slots (min kept 65535)
 
 -- a parameter that the maker adds: its PID, and which data it has

@@ -80,8 +80,8 @@ fn append_without(pids: &[u16], text: &mut Body)
 fn devices_text(profile: &Profile, kept: usize) -> [u8; 21]
     ensures { result ≡ devices_text profile.now kept }
 {
-    let root = unit_text(&profile.root);
-    let sub = unit_text(&profile.sub);
+    let root = unit_text(&profile.root, profile.root_personality_count());
+    let sub = unit_text(&profile.sub, profile.sub.personalities.len() as u8);
     let subs = profile.subs.to_be_bytes();
     let kept = at_most_a_word(kept).to_be_bytes();
     [
@@ -117,8 +117,8 @@ fn at_most_a_word(count: usize) -> u16
 }
 
 /// The model, the software version and how many personalities there are.
-fn unit_text(unit: &Unit) -> [u8; 7]
-    ensures { result ≡ unit_text unit.now }
+fn unit_text(unit: &Unit, personalities: u8) -> [u8; 7]
+    ensures { result ≡ unit_text unit.now personalities }
 {
     let model = unit.model.to_be_bytes();
     let software = unit.software.to_be_bytes();
@@ -129,6 +129,6 @@ fn unit_text(unit: &Unit) -> [u8; 7]
         software[1],
         software[2],
         software[3],
-        unit.personalities.len() as u8,
+        personalities,
     ]
 }

@@ -5,6 +5,7 @@ ghost use Rattle.rdm_words.specs.FixtureWords.{SaysFixture, uid_line, model_word
 ghost use Rattle.rdm_words.specs.Plain.{IsPlain};
 
 mod added;
+mod modes;
 mod muting;
 mod slow;
 
@@ -13,6 +14,7 @@ use crate::data::sensors::put_range;
 use crate::tables::parameters::parameter;
 use crate::text::put_shown;
 use added::{put_added, put_choice_name, put_lock};
+use modes::put_modes;
 use muting::put_muting;
 use rdm_device::{Profile, SensorDef, Slot, Unit};
 use rdm_frame::digits::put_digits;
@@ -75,6 +77,7 @@ fn put_parts(text: &mut String, profile: &Profile, rules: &[Rule]) -> Result<(),
     for (number, slot) in profile.slots.iter().enumerate() {
         put_slot(text, number, slot)?;
     }
+    put_modes(text, profile)?;
     for (number, sensor) in profile.sensors.iter().enumerate() {
         put_sensor(text, number, sensor)?;
     }

@@ -5,6 +5,7 @@ mod captures;
 mod causes;
 mod choices;
 mod lines;
+mod modes;
 mod muting;
 mod own;
 mod requests;

@@ -22,9 +22,10 @@ use crate::handle::Handle;
 use crate::job::{JobNumbers, SteppedNumbers};
 use crate::keeping::{free_at, put, replace, take};
 use crate::outcome::{OutcomeNumbers, report_in};
-use crate::profile::ProfileNumbers;
 use crate::profile::making::{boxed, boxed_demo, fault_of, fault_of_demo};
+use crate::profile::modes::ModeNumbers;
 use crate::profile::parameters::{ChoiceNumbers, ParameterNumbers};
+use crate::profile::{ProfileNumbers, SlotNumbers};
 use crate::status::Status;
 use rdm_frame::standard::MOST_SLOTS;
 use rdm_frame::{Uid, Wire};
@@ -52,14 +53,18 @@ pub extern "C" fn felosumay_responder_new_with_nonnull(
     parameters: &[ParameterNumbers],
     without: &[u16],
     choices: &[ChoiceNumbers],
+    modes: &[ModeNumbers],
+    mode_slots: &[SlotNumbers],
     queue_size: u16,
     entries: u16,
     first_job: u32,
 ) -> u8
     ensures made { result ≡ code_of Status.Done → HeldFor responder.new.held (empty_history (setup_with
-        (settings_of maker device queue_size entries first_job) (profile_in profile.now parameters.now without.now choices.now))) }
+        (settings_of maker device queue_size entries first_job)
+        (profile_in profile.now parameters.now without.now choices.now modes.now mode_slots.now))) }
     ensures told { MakingTold result
-        (settings_of maker device queue_size entries first_job) (profile_in profile.now parameters.now without.now choices.now) }
+        (settings_of maker device queue_size entries first_job)
+        (profile_in profile.now parameters.now without.now choices.now modes.now mode_slots.now) }
     ensures refused { result ≢ code_of Status.Done → responder.new ≡ responder.old }
 {
     let settings = Settings {
@@ -71,10 +76,12 @@ pub extern "C" fn felosumay_responder_new_with_nonnull(
     if let Some(refusal) = refusal(&settings) {
         return refusal.code();
     }
-    if fault_of(profile, parameters, without, choices).is_some() {
+    if fault_of(profile, parameters, without, choices, modes, mode_slots).is_some() {
         return Status::BadProfile.code();
     }
-    let Some(profile) = boxed(alloc, profile, parameters, without, choices) else {
+    let Some(profile) = boxed(
+        alloc, profile, parameters, without, choices, modes, mode_slots,
+    ) else {
         return Status::OutOfMemory.code();
     };
     start(alloc, responder, &settings, profile).code()

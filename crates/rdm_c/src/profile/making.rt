@@ -4,19 +4,22 @@
 ghost use Rattle.std.specs.Prelude.{◌≡◌, ◌↔◌, ◌<◌, ◌≤◌, List, None, IfOk, IfSome, IsTrue, length, map};
 ghost use Rattle.rdm_profile.specs.Demo.{demo};
 ghost use Rattle.rdm_profile_rules.specs.declared.faults.ProfileFault.TheVariants.{ParameterNames, ParameterLocks};
-ghost use Rattle.rdm_profile_rules.specs.Faults.{IsFirstBroken, KeepsBefore, KeepsLeftOut};
+ghost use Rattle.rdm_profile_rules.specs.Faults.{IsFirstBroken, KeepsBefore, KeepsBinding, KeepsLeftOut};
+ghost use Rattle.rdm_profile.specs.Modes.{shape_of};
 ghost use Rattle.rdm_profile.specs.Particulars.{usual_particular};
-ghost use Rattle.rdm_profile.specs.Profiles.{Agree, AreGoodLocks, AreGoodParameters, CanBeMade};
+ghost use Rattle.rdm_profile.specs.Profiles.{Agree, AreGoodLocks, AreGoodModes, AreGoodParameters, CanBeMade};
 ghost use Rattle.rdm_profile.specs.declared.profile.choices.ChoiceName.{ChoiceName};
+ghost use Rattle.rdm_c.specs.Modes.{mode_in, HaveFewSlots};
 ghost use Rattle.rdm_c.specs.Parameters.{choice_in, lock_in, parameter_in, HasOwn};
 ghost use Rattle.rdm_c.specs.Profiles.{particular_in, profile_in};
 
+use crate::profile::modes::{ModeNumbers, modes_of, shapes_of};
 use crate::profile::parameters::{ChoiceNumbers, LockNumbers, ParameterNumbers};
-use crate::profile::{ProfileNumbers, lists};
+use crate::profile::{ProfileNumbers, SlotNumbers, lists};
 use arrayvec::ArrayVec;
 use rdm_device::{
-    ProfileFault, agree, can_hold, can_open, have_states, mute_fault, own_fault, profile_fault,
-    profile_fault_with,
+    ProfileFault, agree, can_hold, can_open, have_states, mode_fault, mute_fault, own_fault,
+    profile_fault, profile_fault_with,
 };
 use rdm_frame::Text;
 use rdm_params::{
@@ -30,6 +33,9 @@ const MOST_OWN: usize = 32;
 /// How many names of choices there can be.
 const MOST_CHOICES: usize = 64;
 
+/// How many modes there can be.
+const MOST_MODES: usize = 247;
+
 /// The profile of these numbers on the heap, if there is memory for it.
 #[inline(never)]
 pub(crate) fn boxed(
@@ -38,13 +44,18 @@ pub(crate) fn boxed(
     parameters: &[ParameterNumbers],
     without: &[u16],
     choices: &[ChoiceNumbers],
+    modes: &[ModeNumbers],
+    slots: &[SlotNumbers],
 ) -> Option<Box<Profile>>
     requires own { length parameters.now ≤ 32 }
     requires without { length without.now ≤ 36 }
     requires choices { length choices.now ≤ 64 }
-    ensures { IfSome result (λ boxed. boxed.value ≡ profile_in numbers.now parameters.now without.now choices.now) }
+    requires modes { length modes.now ≤ 247 }
+    requires slots { HaveFewSlots slots.now modes.now }
+    ensures { IfSome result (λ boxed. boxed.value ≡ profile_in numbers.now parameters.now without.now choices.now modes.now slots.now) }
 {
-    let Ok(particulars) = particulars(alloc, numbers, parameters, without, choices) else {
+    let Ok(particulars) = particulars(alloc, numbers, parameters, without, choices, modes, slots)
+    else {
         return None;
     };
     let Ok(mut boxed) = Box::new(alloc, blank()) else {
@@ -63,11 +74,15 @@ fn particulars(
     parameters: &[ParameterNumbers],
     without: &[u16],
     choices: &[ChoiceNumbers],
+    modes: &[ModeNumbers],
+    slots: &[SlotNumbers],
 ) -> Result<Particulars, AllocError>
     requires own { length parameters.now ≤ 32 }
     requires without { length without.now ≤ 36 }
     requires choices { length choices.now ≤ 64 }
-    ensures { IfOk result (λ made. made ≡ particular_in numbers.now parameters.now without.now choices.now) }
+    requires modes { length modes.now ≤ 247 }
+    requires slots { HaveFewSlots slots.now modes.now }
+    ensures { IfOk result (λ made. made ≡ particular_in numbers.now parameters.now without.now choices.now modes.now slots.now) }
 {
     let mut particular = Particular::usual();
     particular.own = OwnParameters::with_room(alloc, parameters.len())?;
@@ -79,6 +94,7 @@ fn particulars(
     particular.estimates = numbers.estimates.estimates();
     particular.mute_reply = numbers.mute_reply();
     particular.newest_only = numbers.newest_only != 0;
+    particular.modes = modes_of(alloc, modes, slots)?;
     Particulars::of(alloc, particular)
 }
 
@@ -101,12 +117,35 @@ pub(crate) fn fault_of(
     parameters: &[ParameterNumbers],
     without: &[u16],
     choices: &[ChoiceNumbers],
+    modes: &[ModeNumbers],
+    slots: &[SlotNumbers],
 ) -> Option<ProfileFault>
-    ensures good { (result ≡ None) ↔ CanBeMade (profile_in numbers.now parameters.now without.now choices.now) }
-    ensures first { IfSome result (λ fault. IsFirstBroken fault (profile_in numbers.now parameters.now without.now choices.now)) }
+    ensures good { (result ≡ None) ↔ CanBeMade (profile_in numbers.now parameters.now without.now choices.now modes.now slots.now) }
+    ensures first { IfSome result (λ fault. IsFirstBroken fault
+        (profile_in numbers.now parameters.now without.now choices.now modes.now slots.now)) }
     ensures own { result ≡ None → length parameters.now ≤ 32 }
     ensures without { result ≡ None → length without.now ≤ 36 }
     ensures choices { result ≡ None → length choices.now ≤ 64 }
+    ensures modes { result ≡ None → length modes.now ≤ 247 }
+    ensures slots { result ≡ None → HaveFewSlots slots.now modes.now }
+{
+    match fault_but_modes(numbers, parameters, without, choices) {
+        Some(fault) => Some(fault),
+        None => fault_of_modes(numbers.root.personality_total(), modes, slots),
+    }
+}
+
+/// The first rule that the profile breaks, of those that don't speak of modes.
+fn fault_but_modes(
+    numbers: &ProfileNumbers,
+    parameters: &[ParameterNumbers],
+    without: &[u16],
+    choices: &[ChoiceNumbers],
+) -> Option<ProfileFault>
+    ensures first { (modes : List ModeNumbers) (slots : List SlotNumbers) → IfSome result (λ fault. IsFirstBroken fault
+        (profile_in numbers.now parameters.now without.now choices.now modes slots)) }
+    ensures none { (modes : List ModeNumbers) (slots : List SlotNumbers) → result ≡ None →
+        KeepsBinding (profile_in numbers.now parameters.now without.now choices.now modes slots) }
 {
     match fault_but_own(numbers, without) {
         Some(fault) => Some(fault),
@@ -117,13 +156,31 @@ pub(crate) fn fault_of(
     }
 }
 
+/// The first rule of modes that these break, behind so many personalities of the root's unit.
+#[inline(never)]
+fn fault_of_modes(
+    units: usize,
+    modes: &[ModeNumbers],
+    slots: &[SlotNumbers],
+) -> Option<ProfileFault>
+    ensures good { (result ≡ None) ↔ AreGoodModes units (map shape_of (map (mode_in slots.now) modes.now)) }
+    ensures first { (p : Profile) → length p.root.personalities.items ≡ units → p.particulars.modes ≡ map (mode_in slots.now) modes.now
+        → KeepsBinding p → IfSome result (λ fault. IsFirstBroken fault p) }
+{
+    if modes.len() > MOST_MODES {
+        return Some(ProfileFault::ModeCount);
+    }
+    let shapes = shapes_of(modes, slots);
+    mode_fault(units, shapes.as_slice())
+}
+
 /// The first rule that the profile breaks, of those that don't speak of parameters of the maker's own.
 #[inline(never)]
 fn fault_but_own(numbers: &ProfileNumbers, without: &[u16]) -> Option<ProfileFault>
-    ensures first { (parameters : List ParameterNumbers) (choices : List ChoiceNumbers) →
-        IfSome result (λ fault. IsFirstBroken fault (profile_in numbers.now parameters without.now choices)) }
-    ensures none { (parameters : List ParameterNumbers) (choices : List ChoiceNumbers) → result ≡ None →
-        KeepsLeftOut (profile_in numbers.now parameters without.now choices) }
+    ensures first { (parameters : List ParameterNumbers) (choices : List ChoiceNumbers) (modes : List ModeNumbers) (slots : List SlotNumbers) →
+        IfSome result (λ fault. IsFirstBroken fault (profile_in numbers.now parameters without.now choices modes slots)) }
+    ensures none { (parameters : List ParameterNumbers) (choices : List ChoiceNumbers) (modes : List ModeNumbers) (slots : List SlotNumbers) →
+        result ≡ None → KeepsLeftOut (profile_in numbers.now parameters without.now choices modes slots) }
 {
     let mut others = blank();
     numbers.write(&mut others);

@@ -4,7 +4,7 @@ use Rattle.std.specs.Option.{option_map_or}
 use Rattle.std.specs.List.{list_any}
 use Rattle.rdm_device.specs.Device.Measuring.{records}
 use Rattle.rdm_profile.specs.Values.{preset_in, for_byte, for_word}
-use Rattle.rdm_added.specs.Spot.{Range, footprint}
+use Rattle.rdm_added.specs.Spot.{Range, footprint, personalities, slots}
 use Rattle.rdm_profile.specs.Forms.{Form, has_form}
 
 -- every value of the form
@@ -33,7 +33,7 @@ a_language form spot v = for_word (λ code. list_any (λ l. l == code) spot.prof
 
 -- a personality of the device, numbered from 1
 abbrev pub a_personality : Form → Range
-a_personality form spot v = for_byte (λ n. nat_le 1 n && nat_le n (length spot.unit.personalities.items)) v
+a_personality form spot v = for_byte (λ n. nat_le 1 n && nat_le n (length (personalities spot))) v
 
 -- a start address, at a device that uses slots
 abbrev pub a_start : Form → Range
@@ -41,7 +41,7 @@ a_start form spot v = for_word (λ n. nat_le 1 n && nat_le n 512 && not (footpri
 
 -- a slot that the current personality uses, and the profile describes
 abbrev pub a_slot : Form → Range
-a_slot form spot v = for_word (λ n. nat_lt n (footprint spot) && nat_lt n (length spot.profile.slots.items)) v
+a_slot form spot v = for_word (λ n. nat_lt n (footprint spot) && nat_lt n (length (slots spot))) v
 
 -- a sensor
 abbrev pub a_sensor : Form → Range

@@ -10,7 +10,7 @@ use Rattle.rdm_profile.specs.declared.value.Value.TheVariants.{Named, SlotName, 
 use Rattle.rdm_added.specs.Map.{lookup}
 use Rattle.rdm_device.specs.Device.Measuring.{shown_slots}
 use Rattle.rdm_added.specs.Parameters.{root_at_start}
-use Rattle.rdm_added.specs.Spot.{Spot, personality, footprint}
+use Rattle.rdm_added.specs.Spot.{Spot, personality, personalities, footprint, slots}
 use Rattle.rdm_profile.specs.Values.{word_slots, bytes_of, byte_or_0, word_or_0}
 
 -- the meaning of a status ID. Section 10.3.3.
@@ -25,7 +25,7 @@ start_address spot = if footprint spot == 0 then 0xFF ∷ 0xFF ∷ [] else looku
 abbrev pub info : Spot → Value
 info spot =
     Info 0x0100 spot.unit.model spot.unit.category spot.unit.software (footprint spot) (personality spot)
-    (length spot.unit.personalities.items) (from_be_bytes w16 (start_address spot)) spot.profile.subs
+    (length (personalities spot)) (from_be_bytes w16 (start_address spot)) spot.profile.subs
     (if spot.is_root then length spot.profile.sensors.items else 0)
 
 -- the fields of DEVICE_INFO. Section 10.5.1.
@@ -57,16 +57,16 @@ languages spot = flat_map word_slots spot.profile.languages.items
 
 -- the current personality, and how many there are. Section 10.6.1.
 abbrev pub personality_of_all : Spot → List ℕ
-personality_of_all spot = personality spot ∷ length spot.unit.personalities.items ∷ []
+personality_of_all spot = personality spot ∷ length (personalities spot) ∷ []
 
 -- what a personality uses and is called. Section 10.6.2.
 abbrev pub personality_described : Spot → Value → List ℕ
 personality_described spot v =
-    option_map_or (λ m. bytes_of (Mode (byte_or_0 v) m.footprint m.name)) (slice_get spot.unit.personalities.items (byte_or_0 v - 1)) []
+    option_map_or (λ m. bytes_of (Mode (byte_or_0 v) m.footprint m.name)) (slice_get (personalities spot) (byte_or_0 v - 1)) []
 
 -- the slots that the current personality uses
 abbrev pub used_slots : Spot → List Slot
-used_slots spot = take (footprint spot) spot.profile.slots.items
+used_slots spot = take (footprint spot) (slots spot)
 
 -- of each slot from offset n on: the offset, the type and the label ID. Section 10.6.4.
 abbrev pub slot_infos : ℕ → List Slot → List ℕ
@@ -80,7 +80,7 @@ slot_defaults n (s ∷ ss) = word_slots n ++ s.value ∷ slot_defaults (suc n) s
 
 -- what a slot is called. Section 10.6.5.
 abbrev pub slot_described : Spot → Value → List ℕ
-slot_described spot v = option_map_or (λ s. bytes_of (SlotName (word_or_0 v) s.name)) (slice_get spot.profile.slots.items (word_or_0 v)) []
+slot_described spot v = option_map_or (λ s. bytes_of (SlotName (word_or_0 v) s.name)) (slice_get (slots spot) (word_or_0 v)) []
 
 -- what a sensor measures. Section 10.7.1.
 abbrev pub sensor_described : Spot → Value → List ℕ

@@ -9,7 +9,7 @@ ghost use Rattle.rdm_profile.specs.Forms.{byte, word, preset};
 ghost use Rattle.rdm_device.specs.Columns.Ranges.{below, a_message_type, a_threshold, a_status, a_language, a_personality, a_start, a_slot, a_sensor, sensors, a_power_state, a_test, a_self_test, a_preset, recording_sensors, lamp_states_told, lamp_modes_told};
 ghost use Rattle.rdm_device.specs.Device.Measuring.{records};
 
-use crate::device::footprint::footprint;
+use crate::device::footprint::{footprint, personality_count, slots};
 use crate::device::supporting::records;
 use rdm_added::Place;
 use rdm_frame::standard::{ALL_SENSORS, MOST_DMX_SLOTS};
@@ -84,7 +84,7 @@ pub fn a_personality(place: &Place<'_>, value: &Argument<'_>) -> bool
     ensures { result ≡ a_personality byte place.now value.now }
 {
     match value.byte() {
-        Some(number) => 1 <= number && number as usize <= place.unit.personalities.len(),
+        Some(number) => 1 <= number && number <= personality_count(place),
         None => false,
     }
 }
@@ -106,7 +106,7 @@ pub fn a_slot(place: &Place<'_>, value: &Argument<'_>) -> bool
     ensures { result ≡ a_slot word place.now value.now }
 {
     match value.word() {
-        Some(offset) => offset < footprint(place) && (offset as usize) < place.profile.slots.len(),
+        Some(offset) => offset < footprint(place) && (offset as usize) < slots(place).len(),
         None => false,
     }
 }

@@ -10,13 +10,14 @@ ghost use Rattle.std.specs.Option.{option_copied};
 ghost use Rattle.std.specs.Int.{w16, from_be_bytes};
 ghost use Rattle.rdm_device.specs.Columns.Replies.{status_text, factory_pids, device_info, at_factory_defaults, personality_of_all, personality_described, start_address, slot_described, sensor_described, sensor_measured, self_test_runs, self_test_described};
 ghost use Rattle.rdm_added.specs.Map.{lookup};
+ghost use Rattle.rdm_added.specs.Spot.{footprint, personalities};
 ghost use Rattle.rdm_device.specs.Device.Measuring.{shown_slots};
 ghost use Rattle.rdm_added.specs.Parameters.{root_at_start};
 ghost use Rattle.rdm_added.specs.Views.State.{common_entries, own_entries, sensor_entries, measured_slots};
 ghost use Rattle.rdm_profile.specs.Values.{bytes_of, word_slots};
 
 pub use crate::columns::replies::lists::{languages, slot_defaults, slot_infos};
-use crate::device::footprint::footprint;
+use crate::device::footprint::{footprint, personality_at, personality_count, slots};
 use crate::device::supporting::shown;
 use rdm_added::added::are_at_start;
 use rdm_added::{CommonValues, Measured, Place, RootValues};
@@ -56,9 +57,11 @@ pub fn device_info(place: &Place<'_>, body: &mut Body)
     // list once. Read as arrays of bytes they would lie in memory, and each append would test whether the list does too.
     let unit = place.unit;
     let (model, category, software) = (unit.model, unit.category, unit.software);
-    let (personality, personalities) = (place.common.personality, unit.personalities.len() as u8);
-    let (slots, start) = (footprint(place), start_number(place));
-    let (subs, sensors) = (place.profile.subs, sensor_count(place));
+    let personality = place.common.personality;
+    let slots = footprint(place);
+    let start = start_number(place, slots);
+    let (personalities, sensors) = counts(place);
+    let subs = place.profile.subs;
     // It is empty already. Here the compiler sees that, and looks for room no more.
     body.clear();
     body.append(&PROTOCOL_VERSION.to_be_bytes());
@@ -72,13 +75,18 @@ pub fn device_info(place: &Place<'_>, body: &mut Body)
     body.append(&[sensors]);
 }
 
-/// How many sensors the device has: only the root has any.
-fn sensor_count(place: &Place<'_>) -> u8
-    ensures { result ≡ if place.now.is_root then length place.now.profile.sensors.items else 0 }
+/// How many personalities and sensors the device has: only the root has modes, and any sensors.
+fn counts(place: &Place<'_>) -> (u8, u8)
+    ensures personalities { result.0 ≡ length (personalities place.now) }
+    ensures sensors { result.1 ≡ if place.now.is_root then length place.now.profile.sensors.items else 0 }
 {
+    let units = place.unit.personalities.len();
     match place.own {
-        Some(_) => place.profile.sensors.len() as u8,
-        None => 0,
+        Some(_) => {
+            let modes = place.profile.particulars.modes().len();
+            ((units + modes) as u8, place.profile.sensors.len() as u8)
+        }
+        None => (units as u8, 0),
     }
 }
 
@@ -133,10 +141,7 @@ pub fn personality_of_all(place: &Place<'_>, body: &mut Body)
     requires { body.old ≡ [] }
     ensures { body.new ≡ personality_of_all place.now }
 {
-    body.append(&[
-        place.common.personality,
-        place.unit.personalities.len() as u8,
-    ]);
+    body.append(&[place.common.personality, personality_count(place)]);
 }
 
 /// What a personality uses and is called.
@@ -146,8 +151,7 @@ pub fn personality_described(place: &Place<'_>, value: &Argument<'_>, body: &mut
     ensures { body.new ≡ personality_described place.now value.now }
 {
     let number = value.byte().unwrap_or(0);
-    let index = (number as usize).saturating_sub(1);
-    if let Some(personality) = place.unit.personalities.get(index) {
+    if let Some(personality) = personality_at(place, number) {
         body.append(&[number]);
         body.append(&personality.footprint.to_be_bytes());
         body.append(personality.name.as_slice());
@@ -160,14 +164,16 @@ pub fn start_address(place: &Place<'_>, body: &mut Body)
     requires { body.old ≡ [] }
     ensures { body.new ≡ start_address place.now }
 {
-    body.append(&shown_start(place).to_be_bytes());
+    body.append(&shown_start(place, footprint(place)).to_be_bytes());
 }
 
+/// The start address that is told, where so many slots are used.
 #[tactic(auto, unfolding(rdm_added::specs::Views::State::common_entries))]
-fn shown_start(place: &Place<'_>) -> u16
+fn shown_start(place: &Place<'_>, slots: u16) -> u16
+    requires { slots ≡ footprint place.now }
     ensures { word_slots result ≡ start_address place.now }
 {
-    if footprint(place) == 0 {
+    if slots == 0 {
         0xFFFF
     } else {
         place.common.start
@@ -175,10 +181,11 @@ fn shown_start(place: &Place<'_>) -> u16
 }
 
 #[tactic(auto, using(crate::proofs::Words::word_read))]
-fn start_number(place: &Place<'_>) -> u16
+fn start_number(place: &Place<'_>, slots: u16) -> u16
+    requires { slots ≡ footprint place.now }
     ensures { result ≡ from_be_bytes w16 (start_address place.now) }
 {
-    shown_start(place)
+    shown_start(place, slots)
 }
 
 /// What a slot is called.
@@ -188,7 +195,7 @@ pub fn slot_described(place: &Place<'_>, value: &Argument<'_>, body: &mut Body)
     ensures { body.new ≡ slot_described place.now value.now }
 {
     let offset = value.word().unwrap_or(0);
-    if let Some(slot) = place.profile.slots.get(offset as usize) {
+    if let Some(slot) = slots(place).get(offset as usize) {
         body.append(&offset.to_be_bytes());
         body.append(slot.name.as_slice());
     }

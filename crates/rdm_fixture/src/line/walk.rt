@@ -44,6 +44,8 @@ struct Walk<'a> {
     table: Option<usize>,
     /// How many headers of the list on the way there were.
     entries: usize,
+    /// How many of a list in the last entry of that one.
+    inner_entries: usize,
     open: ArrayVec<Open, RECURSION_LIMIT>,
 }
 
@@ -59,6 +61,7 @@ pub(super) fn place_of(
         best: None,
         table: Some(0),
         entries: 0,
+        inner_entries: 0,
         open: ArrayVec::new(),
     };
     let mut rest = text.strip_prefix("\u{feff}").unwrap_or(text);
@@ -184,17 +187,23 @@ impl Walk<'_> {
         }
     }
 
-    /// The same of a header. One of the list on the way begins an entry of it, and each name behind the list's is in the last
+    /// The same of a header. One of a list on the way begins an entry of it, and each name behind the list's is in the last
     /// entry.
     fn steps_of_header(&mut self, key: &Key, is_list: bool) -> (usize, bool) {
         let mut steps = 0usize;
+        let mut is_inner = false;
         for part in &key.path {
             if !self.is_next(steps, part.as_str()) {
                 return (steps, false);
             }
             steps = steps.saturating_add(1);
             if self.is_entry_next(steps) {
-                let entries = self.entries;
+                let entries = if is_inner {
+                    self.inner_entries
+                } else {
+                    self.entries
+                };
+                is_inner = true;
                 match self.steps_to_entry(Some(steps), entries) {
                     Some(further) => steps = further,
                     None => return (steps, false),
@@ -208,12 +217,24 @@ impl Walk<'_> {
         if !is_list {
             return (steps, true);
         }
-        let entries = self.entries.saturating_add(1);
-        self.entries = entries;
+        let entries = self.begin_entry(is_inner);
         match self.steps_to_entry(Some(steps), entries) {
             Some(further) => (further, true),
             None => (steps, false),
         }
+    }
+
+    /// Counts an entry of the list on the way, or of one in its last entry: which it is, from 1.
+    fn begin_entry(&mut self, is_inner: bool) -> usize {
+        if is_inner {
+            let entries = self.inner_entries.saturating_add(1);
+            self.inner_entries = entries;
+            return entries;
+        }
+        let entries = self.entries.saturating_add(1);
+        self.entries = entries;
+        self.inner_entries = 0;
+        entries
     }
 
     /// Whether the step after the first N is to an entry of a list.

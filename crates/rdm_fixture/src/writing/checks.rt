@@ -1,6 +1,7 @@
 //! Which fixtures a file can describe.
 
 ghost use Rattle.std.specs.Prelude.{◌≡◌, ◌↔◌, ◌≤◌, IsTrue, All, length};
+ghost use Rattle.std.specs.List.{list_all};
 ghost use Rattle.rdm_fixture.specs.Describable as spec;
 ghost use Rattle.rdm_fixture.specs.Notices.{comes_again as says_again};
 ghost use Rattle.rdm_fixture.specs.OverTime.{AreCourses};
@@ -13,8 +14,8 @@ use crate::parameters::{can_reset, greatest_of, least_of};
 use crate::working::can_work;
 use rdm_courses::Notice;
 use rdm_device::{
-    ChoiceName, ParameterDef, Personality, Profile, SelfTest, SensorDef, Shape, Slot, StatusText,
-    Unit, is_good,
+    ChoiceName, Mode, ParameterDef, Personality, Profile, SelfTest, SensorDef, Shape, Slot,
+    StatusText, Unit, is_good,
 };
 use rdm_fixture_keys::keys::are_printable;
 use rdm_frame::Text;
@@ -133,6 +134,7 @@ fn has_printable_texts(profile: &Profile) -> bool
         && are_tests_printable(profile.tests.as_slice())
         && are_statuses_printable(profile.status_texts.as_slice())
         && are_choices_printable(profile.particulars.choices())
+        && are_modes_printable(profile.particulars.modes())
 }
 
 /// The same of the root's or a sub-device's.
@@ -186,6 +188,25 @@ fn are_choices_printable(choices: &[ChoiceName]) -> bool
     ensures { IsTrue result ↔ All (λ c. IsTrue (spec.are_printable c.name)) choices.now }
 {
     choices.iter().all(|c| is_printable(&c.name))
+}
+
+fn are_modes_printable(modes: &[Mode]) -> bool
+    ensures { IsTrue result ↔ All (λ m. IsTrue (spec.is_printable_mode m)) modes.now }
+{
+    modes.iter().all(|m| is_printable_mode(m))
+}
+
+/// Whether what a mode is called, and what its slots are, can stand in a file.
+fn is_printable_mode(mode: &Mode) -> bool
+    ensures { result ≡ spec.is_printable_mode mode.now }
+{
+    is_printable(&mode.personality.name) && are_names_printable(mode.slots.as_slice())
+}
+
+fn are_names_printable(slots: &[Slot]) -> bool
+    ensures { result ≡ list_all (λ s. spec.are_printable s.name) slots.now }
+{
+    slots.iter().all(|s| is_printable(&s.name))
 }
 
 // ---- the languages and the outcomes

@@ -1,17 +1,18 @@
-//! The entries of the lists: personalities, slots, self tests, status IDs, the names of choices, and the locks.
+//! The entries of the lists: personalities, slots, modes, self tests, status IDs, the names of choices, and the locks.
 
 ghost use Rattle.std.specs.Prelude.{◌≡◌, ◌≤◌, ◌<◌, IsTrue, IfOk, Some, [], ◌∷◌};
 ghost use Rattle.toml.specs.View.{view};
-ghost use Rattle.rdm_fixture.specs.Describable.{are_printable};
+ghost use Rattle.rdm_fixture.specs.Describable.{are_printable, is_printable_mode};
 ghost use Rattle.rdm_fixture_keys.specs.Entries.{IsPersonality, IsSlot, IsSelfTest, IsStatus, IsChoice};
 ghost use Rattle.rdm_fixture.specs.Format.{IsLocking, locked_pid};
 ghost use Rattle.rdm_fixture.specs.Lists.{ListAt};
+ghost use Rattle.rdm_fixture.specs.OwnSlots.{IsMode};
 ghost use Rattle.rdm_fixture.specs.Writing.{IsPlain, locking_of};
 
 use super::fields::{
-    ToEntry, put, put_byte, put_label, put_long, put_named_byte, put_text, put_word,
+    ToEntry, list_of, put, put_byte, put_label, put_long, put_named_byte, put_text, put_word,
 };
-use rdm_device::{ChoiceName, Lock, Personality, SelfTest, Slot, StatusText};
+use rdm_device::{ChoiceName, Lock, Mode, Personality, SelfTest, Slot, StatusText};
 use rdm_standard_names::NameKind;
 use std::alloc::{AllocError, Global};
 use toml::{Table, Value};
@@ -44,6 +45,29 @@ impl ToEntry for Slot {
         put_label(alloc, &mut table, self.kind, self.label)?;
         put_byte(alloc, &mut table, "default_value", self.value)?;
         put_text(alloc, &mut table, "description", &self.name)?;
+        Ok(table)
+    }
+}
+
+impl ToEntry for Mode {
+    ghost says = { λ _. IsMode };
+
+    ghost can = { λ _ m. (m.personality.footprint ≤ 512) × IsTrue (is_printable_mode m) };
+
+    ghost deep = { 3 };
+
+    fn to_entry(&self, alloc: Global) -> Result<Table, AllocError> {
+        let mut table = Table::new(alloc);
+        put_word(
+            alloc,
+            &mut table,
+            "dmx_footprint",
+            self.personality.footprint,
+        )?;
+        put_text(alloc, &mut table, "description", &self.personality.name)?;
+        put_byte(alloc, &mut table, "slots_of", self.slots_of)?;
+        let slots = list_of(alloc, self.slots.as_slice())?;
+        put(alloc, &mut table, "slot", slots)?;
         Ok(table)
     }
 }

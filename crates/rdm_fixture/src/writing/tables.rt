@@ -150,6 +150,12 @@ fn put_rest(alloc: Global, table: &mut Table, fixture: &Fixture) -> Result<(), A
         "status_message",
         list_of(alloc, fixture.start.notices.as_slice())?,
     )?;
+    put(
+        alloc,
+        table,
+        "mode",
+        list_of(alloc, profile.particulars.modes())?,
+    )?;
     Ok(())
 }
 

@@ -1,6 +1,6 @@
 //! Fits out devices as lines of text say.
 
-use super::play::{cut, data, filled, named, plays, says_something, word};
+use super::play::{byte, cut, data, filled, named, plays, says_something, word};
 use super::*;
 
 /// A demonstration device that each line alters, or adds something to. A line that begins with `//` is a comment.
@@ -11,6 +11,7 @@ use super::*;
 /// - `name PID NUMBER HERTZ DATA` adds what one of several things is called: the PID is that of the parameter that tells it, and the frequency
 ///   is 0 where it has none.
 /// - `lock STATE PID` locks a parameter in this state, and `lacks PID` leaves one of the table out.
+/// - `mode FOOTPRINT SLOTS_OF DATA` adds a personality with a name, and behind it ` + KIND LABEL VALUE DATA` for each slot of its own.
 /// - `root` or `cells` has behind it what is altered there: `bare`, which takes all personalities away, `personality FOOTPRINT`, which adds one
 ///   with so many slots, or `start ADDRESS`.
 /// - `subs COUNT`, `presets COUNT`, `slots COUNT`, `no languages`, `no sensors`, `sensor SUPPORT`, which adds one that is answered at once,
@@ -87,6 +88,7 @@ fn fits_line(
         "resets" => add(rt, alloc, &mut particular.own, parameter(rt, words, true)),
         "name" => add_name(rt, alloc, &mut particular.choices, words),
         "lock" => add_lock(rt, alloc, &mut particular.locks, words),
+        "mode" => add_mode(rt, &mut particular.modes, alloc, words),
         "lacks" => {
             let pushed = particular.without.try_push(word(rt, words));
             assert!(rt; pushed.is_ok(), "{line}");
@@ -208,6 +210,42 @@ fn add_lock(rt: &impl Abort, alloc: Global, locks: &mut Locks, words: &str) {
     };
     assert!(rt; locks.as_slice().len() < 64);
     locks.push(alloc, lock).expect(rt, "memory");
+}
+
+/// Adds a personality with slots of its own, or with those of another one.
+fn add_mode(rt: &impl Abort, modes: &mut Modes, alloc: Global, words: &str) {
+    let mut parts = words.split(" + ");
+    let (footprint, told) = cut(parts.next().expect(rt, words));
+    let (slots_of, name) = cut(told);
+    let mut slots = Vec::new(alloc);
+    for slot in parts {
+        slots.push(slot_in(rt, slot)).expect(rt, "memory");
+    }
+    assert!(rt; slots.len() <= 46);
+    let personality = Personality {
+        footprint: count(rt, footprint),
+        name: Text::from_slice(data(rt, name).as_slice()).expect(rt, name),
+    };
+    let mode = Mode {
+        personality,
+        slots_of: small(rt, slots_of),
+        slots: SlotList::of(slots),
+    };
+    assert!(rt; modes.as_slice().len() < 247);
+    modes.push(alloc, mode).expect(rt, "memory");
+}
+
+/// A slot, as words say.
+fn slot_in(rt: &impl Abort, words: &str) -> Slot {
+    let (kind, words) = cut(words);
+    let (label, words) = cut(words);
+    let (value, name) = cut(words);
+    Slot {
+        kind: byte(rt, kind),
+        label: word(rt, label),
+        value: byte(rt, value),
+        name: Text::from_slice(data(rt, name).as_slice()).expect(rt, name),
+    }
 }
 
 /// Alters the root, or what all cells are.

@@ -12,3 +12,8 @@ listed n (Some list) = list.value.items
 abbrev pub grown : {X Y Z : Type 0} → Option (Box (Vec X Y) Z) → List X
 grown None = []
 grown (Some list) = list.value.items
+
+-- the elements of a list that takes no memory without any
+abbrev pub gathered : {X Y : Type 0} → Option (Vec X Y) → List X
+gathered None = []
+gathered (Some list) = list.items

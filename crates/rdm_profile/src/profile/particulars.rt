@@ -4,7 +4,8 @@ ghost use Rattle.std.specs.Prelude.{◌≡◌, ◌≤◌, [], length, IfOk, IsTr
 ghost use Rattle.rdm_profile.specs.Particulars.{usual_particular};
 
 use crate::{
-    ChoiceName, ChoiceNames, Estimates, Lock, Locks, MuteReply, OwnParameters, ParameterDef,
+    ChoiceName, ChoiceNames, Estimates, Lock, Locks, Mode, Modes, MuteReply, OwnParameters,
+    ParameterDef,
 };
 use arrayvec::ArrayVec;
 use std::alloc::{AllocError, Global};
@@ -29,6 +30,8 @@ pub struct Particular {
     pub mute_reply: MuteReply,
     /// Whether the message of a change at its menu takes the place of one that still waits and tells of the same parameter.
     pub newest_only: bool,
+    /// The personalities of the root that have slots of their own, behind those of its `Unit`.
+    pub modes: Modes,
 }
 
 impl Particular {
@@ -45,6 +48,7 @@ impl Particular {
             estimates: Estimates::usual(),
             mute_reply: MuteReply::plain(),
             newest_only: false,
+            modes: Modes::none(),
         }
     }
 
@@ -58,6 +62,7 @@ impl Particular {
             && self.estimates == Estimates::usual()
             && self.mute_reply == MuteReply::plain()
             && !self.newest_only
+            && self.modes.as_slice().is_empty()
     }
 
     /// Whether it adds no parameters, and nothing that belongs to them.
@@ -195,6 +200,18 @@ impl Particulars {
             None => false,
         }
     }
+
+    /// The personalities of the root that have slots of their own.
+    #[inline(always)]
+    pub fn modes(&self) -> &[Mode]
+        ensures value { result.now ≡ self.now.modes }
+        ensures few { length result.now ≤ 247 }
+    {
+        match &self.inner {
+            Some(particular) => particular.modes.as_slice(),
+            None => &[],
+        }
+    }
 }
 
 impl PartialEq for Particulars {
@@ -213,6 +230,7 @@ impl PartialEq for Particulars {
             && self.estimates() == other.estimates()
             && self.mute_reply() == other.mute_reply()
             && self.newest_only() == other.newest_only()
+            && self.modes() == other.modes()
     }
 }
 

@@ -60,10 +60,12 @@ fn announce(outbox: &mut Outbox, message: &Option<Message>, newest: bool)
     ensures workers { outbox.new.workers ≡ outbox.old.workers }
 {
     if let Some(message) = message {
+        // Copied once: two copies would each have room on the stack.
+        let message = message.copy();
         if newest {
-            outbox.post_newest(message.copy());
+            outbox.post_newest(message);
         } else {
-            outbox.post(message.copy());
+            outbox.post(message);
         }
     }
 }

@@ -4,7 +4,7 @@ ghost use Rattle.std.specs.Prelude.{◌≡◌, ◌≤◌, [], take, length, flat
 ghost use Rattle.rdm_device.specs.Columns.Replies.{languages, used_slots, slot_infos, slot_defaults};
 ghost use Rattle.rdm_profile.specs.Values.{word_slots};
 
-use crate::device::footprint::footprint;
+use crate::device::footprint::{footprint, slots};
 use rdm_added::Place;
 use rdm_frame::Body;
 use rdm_profile::Slot;
@@ -35,7 +35,7 @@ pub fn slot_infos(place: &Place<'_>, body: &mut Body)
     requires { body.old ≡ [] }
     ensures { body.new ≡ slot_infos 0 (used_slots place.now) }
 {
-    write_infos(used(place.profile.slots.as_slice(), footprint(place)), body);
+    write_infos(used(slots(place), footprint(place)), body);
 }
 
 #[tactic(auto, using(crate::proofs::ListSteps::infos_step, std::proofs::lemmas::Grind::common_steps))]
@@ -58,7 +58,7 @@ pub fn slot_defaults(place: &Place<'_>, body: &mut Body)
     requires { body.old ≡ [] }
     ensures { body.new ≡ slot_defaults 0 (used_slots place.now) }
 {
-    write_defaults(used(place.profile.slots.as_slice(), footprint(place)), body);
+    write_defaults(used(slots(place), footprint(place)), body);
 }
 
 #[tactic(auto, using(crate::proofs::ListSteps::defaults_step, std::proofs::lemmas::Grind::common_steps))]

@@ -1,4 +1,4 @@
-use Rattle.std.proofs.Common.{rules, ◌≡◌, Some, None, false, refl, inl, inr, codes}
+use Rattle.std.proofs.Common.{rules, ◌≡◌, Some, None, false, inl, inr, codes}
 use Rattle.toml.specs.Data.{get_member}
 use Rattle.toml.specs.View.{table_view}
 use Rattle.rdm_fixture_keys.specs.Keys.{may}

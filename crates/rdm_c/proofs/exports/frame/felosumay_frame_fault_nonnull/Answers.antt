@@ -1,4 +1,4 @@
-use Rattle.std.proofs.Common.{rules, ◌≡◌, refl, sym, ap, ◌∙◌, Option, Some, None, Err, Bool, true, false, is_some, arith}
+use Rattle.std.proofs.Common.{rules, ◌≡◌, refl, sym, ap, ◌∙◌, Option, Some, None, Err, true, false, is_some, arith}
 use Rattle.rdm_frame.specs.declared.decoding.FrameError.TheVariants.{Short, Start, SubStart, Length, Pdl, Checksum}
 use Rattle.rdm_frame.specs.declared.frame.Frame.{Frame}
 use Rattle.rdm_frame.specs.Reading.{frame_in}

@@ -1,66 +1,65 @@
-use Rattle.std.proofs.Common.{rules, ◌≡◌, refl, sym, ap, ◌∙◌, List, Some, None, IsTrue, map, subst}
-use Rattle.rdm_profile.specs.MuteReply.{can_bind}
-use Rattle.rdm_profile.specs.Profiles.{AreGoodLocks, AreGoodParameters}
-use Rattle.rdm_profile.specs.declared.profile.mute_reply.MuteReply.{MuteReply}
-use Rattle.rdm_c.specs.declared.profile.parameters.LockNumbers.{LockNumbers}
-use Rattle.rdm_c.specs.Parameters.{choice_in, lock_in, parameter_in}
+use Rattle.std.proofs.Common.{rules, ◌≡◌, refl, sym, ◌∙◌, ℕ, ◌≤◌, Some, None, map, subst}
+use Rattle.std.proofs.lemmas.List.{length-map}
+use Rattle.rdm_profile.specs.Modes.{shape_of}
+use Rattle.rdm_profile.specs.Profiles.{AreGoodModes}
+use Rattle.rdm_c.specs.Modes.{mode_in}
+use Rattle.rdm_c.specs.Parameters.{choice_in, parameter_in}
 use Rattle.rdm_c.specs.Profiles.{profile_in}
-use Rattle.rdm_c.proofs.Many.{before_binding, keeps_each, made_with}
+use Rattle.rdm_c.proofs.Many.{keeps_each, made_with}
+use Rattle.rdm_c.proofs.ModeSteps.{have_few_slots}
 use Rattle.rdm_c.proofs.profile.making.fault_of.Goals as goal
 
 pub returns-in-Some-clause-good : goal.returns-in-Some-clause-good
 returns-in-Some-clause-good c =
-    let p = profile_in c.args.numbers.now c.args.parameters.now c.args.without.now c.args.choices.now in
-    let first = c.in-Some.ensures.first c.args.parameters.now c.args.choices.now in (
+    let p = profile_in c.args.numbers.now c.args.parameters.now c.args.without.now c.args.choices.now c.args.modes.now c.args.slots.now in
+    let first = c.in-Some.ensures.first c.args.modes.now c.args.slots.now in (
       λ e. absurd (let never : Some c.in-Some.fault ≡ None = e in cc),
       λ can. absurd (first.1 (keeps_each c.in-Some.fault p can)),
     )
 
-pub returns-in-Some-fault_of_own-clause-good : goal.returns-in-Some-fault_of_own-clause-good
-returns-in-Some-fault_of_own-clause-good c =
-    let own = map parameter_in c.args.parameters.now in
-    let names = map choice_in c.args.choices.now in (
-      λ e. absurd (let never : Some c.in-Some-fault_of_own.fault ≡ None = e in cc),
-      λ can.
-          let none : c.fault_of_own.result ≡ None =
-          c.fault_of_own.ensures.good.1 (subst (λ (ls : List LockNumbers). AreGoodParameters own names × AreGoodLocks c.args.without.now own (map lock_in ls)) (sym c.lock_entries.ensures.value) (can.1.own, can.1.locks)) in
-          let is : c.fault_of_own.result ≡ Some c.in-Some-fault_of_own.fault = search rules in
-          absurd (let never : Some c.in-Some-fault_of_own.fault ≡ None = sym is ∙ none in cc),
+pub returns-in-Some-clause-first : goal.returns-in-Some-clause-first
+returns-in-Some-clause-first c = c.in-Some.ensures.first c.args.modes.now c.args.slots.now
+
+pub returns-in-None-clause-good : goal.returns-in-None-clause-good
+returns-in-None-clause-good c =
+    let p = profile_in c.args.numbers.now c.args.parameters.now c.args.without.now c.args.choices.now c.args.modes.now c.args.slots.now in
+    let none : c.fault_but_modes.result ≡ None = search rules in
+    let shapes = map shape_of (map (mode_in c.args.slots.now) c.args.modes.now) in (
+      λ e. made_with p (c.fault_but_modes.ensures.none c.args.modes.now c.args.slots.now none) (subst (λ (n : ℕ). AreGoodModes n shapes) c.personality_total.ensures (c.fault_of_modes.ensures.good.0 e)),
+      λ can. c.fault_of_modes.ensures.good.1 (subst (λ (n : ℕ). AreGoodModes n shapes) (sym c.personality_total.ensures) can.1.modes),
     )
 
-pub returns-in-Some-fault_of_own-clause-first : goal.returns-in-Some-fault_of_own-clause-first
-returns-in-Some-fault_of_own-clause-first c =
-    let p = profile_in c.args.numbers.now c.args.parameters.now c.args.without.now c.args.choices.now in
-    let none : c.fault_but_own.result ≡ None = search rules in
-    let left_out = c.fault_but_own.ensures.none c.args.parameters.now c.args.choices.now none in
-    c.in-Some-fault_of_own.ensures.first p (refl, refl, ap (λ (ls : List LockNumbers). map lock_in ls) (sym c.lock_entries.ensures.value), refl) left_out
+pub returns-in-None-clause-first : goal.returns-in-None-clause-first
+returns-in-None-clause-first c =
+    let p = profile_in c.args.numbers.now c.args.parameters.now c.args.without.now c.args.choices.now c.args.modes.now c.args.slots.now in
+    let none : c.fault_but_modes.result ≡ None = search rules in
+    c.fault_of_modes.ensures.first p (sym c.personality_total.ensures) refl (c.fault_but_modes.ensures.none c.args.modes.now c.args.slots.now none)
 
-pub returns-in-None-fault_of_own-clause-good : goal.returns-in-None-fault_of_own-clause-good
-returns-in-None-fault_of_own-clause-good c =
-    let p = profile_in c.args.numbers.now c.args.parameters.now c.args.without.now c.args.choices.now in
-    let none : c.fault_but_own.result ≡ None = search rules in
-    let no_fault : c.fault_of_own.result ≡ None = search rules in
-    let left_out = c.fault_but_own.ensures.none c.args.parameters.now c.args.choices.now none in
-    let own = map parameter_in c.args.parameters.now in
-    let names = map choice_in c.args.choices.now in
-    let good = subst (λ (ls : List LockNumbers). AreGoodParameters own names × AreGoodLocks c.args.without.now own (map lock_in ls)) c.lock_entries.ensures.value (c.fault_of_own.ensures.good.0 no_fault) in (
-      λ e. made_with p left_out good (subst (λ (r : MuteReply). IsTrue (can_bind r.binding)) c.mute_reply.ensures (c.mute_fault.ensures.good.0 e)),
-      λ can. c.mute_fault.ensures.good.1 (subst (λ (r : MuteReply). IsTrue (can_bind r.binding)) (sym c.mute_reply.ensures) can.1.binding),
-    )
+pub returns-in-None-clause-own : goal.returns-in-None-clause-own
+returns-in-None-clause-own c =
+    let none : c.fault_but_modes.result ≡ None = search rules in
+    let kept = c.fault_but_modes.ensures.none c.args.modes.now c.args.slots.now none in
+    λ e. subst (λ (n : ℕ). n ≤ 32) (length-map c.args.parameters.now parameter_in) kept.0.0.0.1
 
-pub returns-in-None-fault_of_own-clause-first : goal.returns-in-None-fault_of_own-clause-first
-returns-in-None-fault_of_own-clause-first c =
-    let p = profile_in c.args.numbers.now c.args.parameters.now c.args.without.now c.args.choices.now in
-    let none : c.fault_but_own.result ≡ None = search rules in
-    let no_fault : c.fault_of_own.result ≡ None = search rules in
-    let left_out = c.fault_but_own.ensures.none c.args.parameters.now c.args.choices.now none in
-    let own = map parameter_in c.args.parameters.now in
-    let names = map choice_in c.args.choices.now in
-    let good = subst (λ (ls : List LockNumbers). AreGoodParameters own names × AreGoodLocks c.args.without.now own (map lock_in ls)) c.lock_entries.ensures.value (c.fault_of_own.ensures.good.0 no_fault) in
-    c.mute_fault.ensures.first p (sym c.mute_reply.ensures) (before_binding p left_out good)
-
-pub returns-in-None-fault_of_own-clause-without : goal.returns-in-None-fault_of_own-clause-without
-returns-in-None-fault_of_own-clause-without c =
-    let none : c.fault_but_own.result ≡ None = search rules in
-    let left_out = c.fault_but_own.ensures.none c.args.parameters.now c.args.choices.now none in
+pub returns-in-None-clause-without : goal.returns-in-None-clause-without
+returns-in-None-clause-without c =
+    let none : c.fault_but_modes.result ≡ None = search rules in
+    let kept = c.fault_but_modes.ensures.none c.args.modes.now c.args.slots.now none in
+    let left_out = kept.0.0.0.0 in
     λ e. left_out.1.0
+
+pub returns-in-None-clause-choices : goal.returns-in-None-clause-choices
+returns-in-None-clause-choices c =
+    let none : c.fault_but_modes.result ≡ None = search rules in
+    let kept = c.fault_but_modes.ensures.none c.args.modes.now c.args.slots.now none in
+    λ e. subst (λ (n : ℕ). n ≤ 64) (length-map c.args.choices.now choice_in) kept.0.0.3.count
+
+pub returns-in-None-clause-modes : goal.returns-in-None-clause-modes
+returns-in-None-clause-modes c e =
+    let modes = map (mode_in c.args.slots.now) c.args.modes.now in
+    let few = (c.fault_of_modes.ensures.good.0 e).count in
+    subst (λ (n : ℕ). n ≤ 247) (length-map modes shape_of ∙ length-map c.args.modes.now (mode_in c.args.slots.now)) few
+
+pub returns-in-None-clause-slots : goal.returns-in-None-clause-slots
+returns-in-None-clause-slots c e =
+    have_few_slots c.personality_total.result c.args.slots.now c.args.modes.now (c.fault_of_modes.ensures.good.0 e)

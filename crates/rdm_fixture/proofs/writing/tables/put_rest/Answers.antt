@@ -8,12 +8,14 @@ use Rattle.rdm_fixture.specs.Lists.{ListAt, OfTable}
 use Rattle.rdm_fixture.specs.Outcomes.{IsOutcome}
 use Rattle.rdm_fixture.specs.Notices.{IsNotice}
 use Rattle.rdm_fixture.specs.OverTime.{IsCourse}
+use Rattle.rdm_fixture.specs.OwnSlots.{IsMode}
 use Rattle.rdm_fixture.specs.Starting.{SaysPresent}
 use Rattle.rdm_fixture.specs.Writing.{locking_of, IsPlain}
 use Rattle.rdm_fixture.proofs.WrittenFixtures.{fixture_members, fixture_says, fixture_plain, deeper, deeper_some}
 use Rattle.rdm_fixture.proofs.WrittenLists.{some_plain}
 use Rattle.rdm_fixture.proofs.ChoiceNumbers.{all_numbered}
 use Rattle.rdm_fixture.proofs.Locks.{all_stated}
+use Rattle.rdm_fixture.proofs.OwnSlots.{all_fit}
 use Rattle.rdm_fixture.proofs.writing.tables.put_rest.Goals as goal
 
 pub returns-clause-says : goal.returns-clause-says
@@ -55,31 +57,33 @@ returns-clause-says c = λ can rest.
     let notices : ListAt (OfTable IsNotice) (option_map view c.in_ok-list_of-8.field-0) f.start.notices.items =
     rw c.as_slice-8.ensures.value at (c.in_ok-list_of-8.ensures.says 0 (rw c.as_slice-8.ensures.value (can.notices))) in
     let notices_fit : length f.start.notices.items ≤ 16 = omega (arith, ap length c.as_slice-8.ensures.value, c.as_slice-8.ensures.fits) in
+    let own_slots : ListAt (OfTable IsMode) (option_map view c.in_ok-list_of-9.field-0) f.profile.particulars.modes =
+    rw c.modes.ensures.value at (c.in_ok-list_of-9.ensures.says 0 (rw c.modes.ensures.value (λ k d less. (all_fit f.profile.particulars.modes made.modes.footprints k d less, texts.modes k d less)))) in
     let whole = fixture_members f (table_view c.args.table.now) (view c.in_ok-uid_of.field-0) (view c.in_ok-languages_of.field-0)
-    (option_map view c.in_ok-list_of.field-0) (option_map view c.in_ok-sensors_of.field-0) (option_map view c.in_ok-list_of-2.field-0) (option_map view c.in_ok-list_of-3.field-0) (option_map view c.in_ok-names_of.field-0) (option_map view c.in_ok-list_of-4.field-0) (option_map view c.in_ok-list_of-5.field-0) (option_map view c.in_ok-list_of-6.field-0) (option_map view c.in_ok-list_of-7.field-0) (option_map view c.in_ok-sub_devices_of.field-0) (option_map view c.in_ok-estimates_of.field-0) (option_map view c.in_ok-workers_of.field-0) (option_map view c.in_ok-list_of-8.field-0)
-    _ _ _ _ _ _ _ _ _ _ _ _ _ _ _ _ _ _ _ _ _ (rw c.mute_reply.ensures at (c.in_ok-put_mute_reply.ensures.put refl)) (rw c.newest_only.ensures at (c.in_ok-put_true.ensures refl)) (c.in_ok-put.ensures refl) (c.in_ok-put_long.ensures.put refl) (c.in_ok-put_text.ensures.put refl) (c.in_ok-put-2.ensures refl)
+    (option_map view c.in_ok-list_of.field-0) (option_map view c.in_ok-sensors_of.field-0) (option_map view c.in_ok-list_of-2.field-0) (option_map view c.in_ok-list_of-3.field-0) (option_map view c.in_ok-names_of.field-0) (option_map view c.in_ok-list_of-4.field-0) (option_map view c.in_ok-list_of-5.field-0) (option_map view c.in_ok-list_of-6.field-0) (option_map view c.in_ok-list_of-7.field-0) (option_map view c.in_ok-sub_devices_of.field-0) (option_map view c.in_ok-estimates_of.field-0) (option_map view c.in_ok-workers_of.field-0) (option_map view c.in_ok-list_of-8.field-0) (option_map view c.in_ok-list_of-9.field-0)
+    _ _ _ _ _ _ _ _ _ _ _ _ _ _ _ _ _ _ _ _ _ _ (rw c.mute_reply.ensures at (c.in_ok-put_mute_reply.ensures.put refl)) (rw c.newest_only.ensures at (c.in_ok-put_true.ensures refl)) (c.in_ok-put.ensures refl) (c.in_ok-put_long.ensures.put refl) (c.in_ok-put_text.ensures.put refl) (c.in_ok-put-2.ensures refl)
     (c.in_ok-put_word.ensures.put refl) (rw c.more_slots.ensures at (c.in_ok-put_word-2.ensures.put refl)) (c.in_ok-put-3.ensures refl) (c.in_ok-put-4.ensures refl) (c.in_ok-put-5.ensures refl)
-    (c.in_ok-put-6.ensures refl) (c.in_ok-put-7.ensures refl) (c.in_ok-put-8.ensures refl) (c.in_ok-put-9.ensures refl) (c.in_ok-put-10.ensures refl) (c.in_ok-put-11.ensures refl) (c.in_ok-put-12.ensures refl) (c.in_ok-put-13.ensures refl) (c.in_ok-put-14.ensures refl) (c.in_ok-put-15.ensures refl) in
+    (c.in_ok-put-6.ensures refl) (c.in_ok-put-7.ensures refl) (c.in_ok-put-8.ensures refl) (c.in_ok-put-9.ensures refl) (c.in_ok-put-10.ensures refl) (c.in_ok-put-11.ensures refl) (c.in_ok-put-12.ensures refl) (c.in_ok-put-13.ensures refl) (c.in_ok-put-14.ensures refl) (c.in_ok-put-15.ensures refl) (c.in_ok-put-16.ensures refl) in
     subst (λ (t : Members). IsFixture t f) (sym whole)
     (fixture_says f (table_view c.args.table.now) (view c.in_ok-uid_of.field-0) (view c.in_ok-languages_of.field-0)
-    (option_map view c.in_ok-list_of.field-0) (option_map view c.in_ok-sensors_of.field-0) (option_map view c.in_ok-list_of-2.field-0) (option_map view c.in_ok-list_of-3.field-0) (option_map view c.in_ok-names_of.field-0) (option_map view c.in_ok-list_of-4.field-0) (option_map view c.in_ok-list_of-5.field-0) (option_map view c.in_ok-list_of-6.field-0) (option_map view c.in_ok-list_of-7.field-0) (option_map view c.in_ok-sub_devices_of.field-0) (option_map view c.in_ok-estimates_of.field-0) (option_map view c.in_ok-workers_of.field-0) (option_map view c.in_ok-list_of-8.field-0)
+    (option_map view c.in_ok-list_of.field-0) (option_map view c.in_ok-sensors_of.field-0) (option_map view c.in_ok-list_of-2.field-0) (option_map view c.in_ok-list_of-3.field-0) (option_map view c.in_ok-names_of.field-0) (option_map view c.in_ok-list_of-4.field-0) (option_map view c.in_ok-list_of-5.field-0) (option_map view c.in_ok-list_of-6.field-0) (option_map view c.in_ok-list_of-7.field-0) (option_map view c.in_ok-sub_devices_of.field-0) (option_map view c.in_ok-estimates_of.field-0) (option_map view c.in_ok-workers_of.field-0) (option_map view c.in_ok-list_of-8.field-0) (option_map view c.in_ok-list_of-9.field-0)
     can rest.keys rest.counted (λ n same. rest.unit n (rw same made.root) texts.root)
     ((rw c.mute_reply.ensures at c.put_mute_reply.ensures.says) made.binding) (c.in_ok-uid_of.ensures.says can.own) c.put_long.ensures.says (c.put_text.ensures.says texts.boot)
     (c.in_ok-languages_of.ensures.says made.language can.languages)
     slots slots_fit sensors sensors_fit presents courses tests tests_fit statuses statuses_fit lacked lacked_fit own own_fit named named_fit locked locked_fit outcomes outcomes_fit
-    (c.in_ok-sub_devices_of.ensures.says can.made texts.sub) (rw c.estimates.ensures at c.in_ok-estimates_of.ensures.says) c.in_ok-workers_of.ensures.says notices notices_fit)
+    (c.in_ok-sub_devices_of.ensures.says can.made texts.sub) (rw c.estimates.ensures at c.in_ok-estimates_of.ensures.says) c.in_ok-workers_of.ensures.says notices notices_fit own_slots)
 
 pub returns-clause-plain : goal.returns-clause-plain
 returns-clause-plain c = λ rest.
     let f = c.args.fixture.now in
     let whole = fixture_members f (table_view c.args.table.now) (view c.in_ok-uid_of.field-0) (view c.in_ok-languages_of.field-0)
-    (option_map view c.in_ok-list_of.field-0) (option_map view c.in_ok-sensors_of.field-0) (option_map view c.in_ok-list_of-2.field-0) (option_map view c.in_ok-list_of-3.field-0) (option_map view c.in_ok-names_of.field-0) (option_map view c.in_ok-list_of-4.field-0) (option_map view c.in_ok-list_of-5.field-0) (option_map view c.in_ok-list_of-6.field-0) (option_map view c.in_ok-list_of-7.field-0) (option_map view c.in_ok-sub_devices_of.field-0) (option_map view c.in_ok-estimates_of.field-0) (option_map view c.in_ok-workers_of.field-0) (option_map view c.in_ok-list_of-8.field-0)
-    _ _ _ _ _ _ _ _ _ _ _ _ _ _ _ _ _ _ _ _ _ (rw c.mute_reply.ensures at (c.in_ok-put_mute_reply.ensures.put refl)) (rw c.newest_only.ensures at (c.in_ok-put_true.ensures refl)) (c.in_ok-put.ensures refl) (c.in_ok-put_long.ensures.put refl) (c.in_ok-put_text.ensures.put refl) (c.in_ok-put-2.ensures refl)
+    (option_map view c.in_ok-list_of.field-0) (option_map view c.in_ok-sensors_of.field-0) (option_map view c.in_ok-list_of-2.field-0) (option_map view c.in_ok-list_of-3.field-0) (option_map view c.in_ok-names_of.field-0) (option_map view c.in_ok-list_of-4.field-0) (option_map view c.in_ok-list_of-5.field-0) (option_map view c.in_ok-list_of-6.field-0) (option_map view c.in_ok-list_of-7.field-0) (option_map view c.in_ok-sub_devices_of.field-0) (option_map view c.in_ok-estimates_of.field-0) (option_map view c.in_ok-workers_of.field-0) (option_map view c.in_ok-list_of-8.field-0) (option_map view c.in_ok-list_of-9.field-0)
+    _ _ _ _ _ _ _ _ _ _ _ _ _ _ _ _ _ _ _ _ _ _ (rw c.mute_reply.ensures at (c.in_ok-put_mute_reply.ensures.put refl)) (rw c.newest_only.ensures at (c.in_ok-put_true.ensures refl)) (c.in_ok-put.ensures refl) (c.in_ok-put_long.ensures.put refl) (c.in_ok-put_text.ensures.put refl) (c.in_ok-put-2.ensures refl)
     (c.in_ok-put_word.ensures.put refl) (rw c.more_slots.ensures at (c.in_ok-put_word-2.ensures.put refl)) (c.in_ok-put-3.ensures refl) (c.in_ok-put-4.ensures refl) (c.in_ok-put-5.ensures refl)
-    (c.in_ok-put-6.ensures refl) (c.in_ok-put-7.ensures refl) (c.in_ok-put-8.ensures refl) (c.in_ok-put-9.ensures refl) (c.in_ok-put-10.ensures refl) (c.in_ok-put-11.ensures refl) (c.in_ok-put-12.ensures refl) (c.in_ok-put-13.ensures refl) (c.in_ok-put-14.ensures refl) (c.in_ok-put-15.ensures refl) in
+    (c.in_ok-put-6.ensures refl) (c.in_ok-put-7.ensures refl) (c.in_ok-put-8.ensures refl) (c.in_ok-put-9.ensures refl) (c.in_ok-put-10.ensures refl) (c.in_ok-put-11.ensures refl) (c.in_ok-put-12.ensures refl) (c.in_ok-put-13.ensures refl) (c.in_ok-put-14.ensures refl) (c.in_ok-put-15.ensures refl) (c.in_ok-put-16.ensures refl) in
     subst (λ (t : Members). IsPlain 5 (table t)) (sym whole)
     (fixture_plain f (table_view c.args.table.now) (view c.in_ok-uid_of.field-0) (view c.in_ok-languages_of.field-0)
-    (option_map view c.in_ok-list_of.field-0) (option_map view c.in_ok-sensors_of.field-0) (option_map view c.in_ok-list_of-2.field-0) (option_map view c.in_ok-list_of-3.field-0) (option_map view c.in_ok-names_of.field-0) (option_map view c.in_ok-list_of-4.field-0) (option_map view c.in_ok-list_of-5.field-0) (option_map view c.in_ok-list_of-6.field-0) (option_map view c.in_ok-list_of-7.field-0) (option_map view c.in_ok-sub_devices_of.field-0) (option_map view c.in_ok-estimates_of.field-0) (option_map view c.in_ok-workers_of.field-0) (option_map view c.in_ok-list_of-8.field-0)
+    (option_map view c.in_ok-list_of.field-0) (option_map view c.in_ok-sensors_of.field-0) (option_map view c.in_ok-list_of-2.field-0) (option_map view c.in_ok-list_of-3.field-0) (option_map view c.in_ok-names_of.field-0) (option_map view c.in_ok-list_of-4.field-0) (option_map view c.in_ok-list_of-5.field-0) (option_map view c.in_ok-list_of-6.field-0) (option_map view c.in_ok-list_of-7.field-0) (option_map view c.in_ok-sub_devices_of.field-0) (option_map view c.in_ok-estimates_of.field-0) (option_map view c.in_ok-workers_of.field-0) (option_map view c.in_ok-list_of-8.field-0) (option_map view c.in_ok-list_of-9.field-0)
     (deeper 3 5 _ (omega arith) rest)
     (deeper 0 4 _ (omega arith) c.in_ok-uid_of.ensures.plain) (deeper 1 4 _ (omega arith) c.in_ok-languages_of.ensures.plain)
     (deeper_some 2 4 _ (omega arith) (some_plain 2 c.in_ok-list_of.field-0 c.in_ok-list_of.ensures.plain))
@@ -94,4 +98,5 @@ returns-clause-plain c = λ rest.
     (deeper_some 3 4 _ (omega arith) (some_plain 3 c.in_ok-sub_devices_of.field-0 c.in_ok-sub_devices_of.ensures.plain))
     (deeper_some 1 4 _ (omega arith) (some_plain 1 c.in_ok-estimates_of.field-0 c.in_ok-estimates_of.ensures.plain))
     (deeper_some 1 4 _ (omega arith) (some_plain 1 c.in_ok-workers_of.field-0 c.in_ok-workers_of.ensures.plain))
-    (deeper_some 2 4 _ (omega arith) (some_plain 2 c.in_ok-list_of-8.field-0 c.in_ok-list_of-8.ensures.plain)))
+    (deeper_some 2 4 _ (omega arith) (some_plain 2 c.in_ok-list_of-8.field-0 c.in_ok-list_of-8.ensures.plain))
+    (some_plain 4 c.in_ok-list_of-9.field-0 c.in_ok-list_of-9.ensures.plain))
